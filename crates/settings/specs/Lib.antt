@@ -1,0 +1,4 @@
+pub mod Range
+pub mod Record
+pub mod Read
+pub mod Write
