@@ -1,7 +1,9 @@
 // Units. Tenths of a volt and hundredths of a volt are two types, so that a pack limit cannot meet a cell limit without a
-// conversion that says so (01, "What the box does"). This crate may not know messages, settings or states.
+// conversion that says so (01, "What the box does"); and a signed number is taken apart by its sign, in one place, so that all that
+// is said of it elsewhere is said of plain numbers. This crate may not know messages, settings or states.
 ghost use mathlib.Core.Path.{_≡_};
 ghost use lib.Dec.{leb};
+ghost use Rattle.units.specs.Signed.{signedOf};
 
 // A pack voltage: 0.1 V.
 pub struct TenthVolts(pub u16);
@@ -24,5 +26,23 @@ impl HundredthVolts {
         ensures { λ r. ⌜ r ≡ leb (other .0) (self .0) ⌝ }
     {
         other.0 <= self.0
+    }
+}
+
+// A signed number by its sign.
+pub enum Signed {
+    // 0 or more: the number.
+    NotBelow(u16),
+    // Below 0: n stands for -(n + 1).
+    Below(u16),
+}
+
+pub fn sign_of(c: i16) -> Signed
+    ensures { λ r. ⌜ r ≡ signedOf c ⌝ }
+{
+    if c < 0 {
+        Signed::Below((-1 - c) as u16)
+    } else {
+        Signed::NotBelow(c as u16)
     }
 }

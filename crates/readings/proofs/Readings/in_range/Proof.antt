@@ -1,0 +1,16 @@
+-- `readings::Readings::in_range` meets its contract. Assumes nothing.
+use mir.Facts.{toZ-ofZ}
+use Rattle.readings.specs.Readings.{inRange}
+use borrow.Author.Needs.{needs}
+use Rattle.readings.proofs.Readings.in_range.Statement.{statement}
+use Rattle.readings.proofs.Readings.in_range.Tie as tie
+
+current-ok-requires : tie.Need-current-ok-requires
+current-ok-requires c κs = search needs
+
+returns : tie.Need-returns
+unfolding inRange
+returns c = rw (rw (toZ-ofZ (record { sfits = c .before .before .before .struct-told .given .1 .1 .1 .0 .1 })) at (c .before .before .current-ok .ensures))
+
+pub in-range-spec : {M : Type 1} → statement M
+in-range-spec = tie.close (tie.spec current-ok-requires returns)

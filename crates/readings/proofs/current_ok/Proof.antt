@@ -1,0 +1,26 @@
+-- `readings::current_ok` meets its contract, by the current's sign. Assumes nothing.
+use mir.Facts.{toZ-ofZ}
+use mathlib.Core.Path.{sym, _∙_}
+use Rattle.readings.proofs.Current.{ok-not-below, ok-below}
+use borrow.Author.Needs.{needs}
+use Rattle.readings.proofs.current_ok.Statement.{statement}
+use Rattle.readings.proofs.current_ok.Tie as tie
+
+sign-of-requires : tie.Need-sign-of-requires
+sign-of-requires c κs = search needs
+
+enum-known-n : tie.Need-enum-known-n
+enum-known-n c = search needs
+
+enum-known-n-2 : tie.Need-enum-known-n-2
+enum-known-n-2 c = search needs
+
+returns : tie.Need-returns
+returns c = ok-not-below _ _ (sym (c .before .n .given .1) ∙ (rw (toZ-ofZ (c .before .before .before .before .fits .c)) at (c .before .before .before .sign-of .ensures)))
+
+returns-2 : tie.Need-returns-2
+returns-2 c = ok-below _ _ (sym (c .before .n2 .given .1) ∙ (rw (toZ-ofZ (c .before .before .before .before .fits .c)) at (c .before .before .before .sign-of .ensures)))
+
+pub current-ok-spec : {M : Type 1} → statement M
+current-ok-spec =
+    tie.close (tie.spec sign-of-requires enum-known-n enum-known-n-2 returns returns-2)
