@@ -7,21 +7,22 @@ use Rattle.messages.specs.declared.table.Row.{Row}
 use Rattle.messages.specs.Identifier.{identifierOf}
 use Rattle.frames.specs.declared.Frame.{Frame}
 
--- a message of the table, from us to a target, with its 8 data bytes
+-- a message of the table, from us to a target, with its 8 data bytes; the length is the row's, 8 in every row that we send
+-- (`sent-rows-have-eight`, messages)
 abbrev pub frameOf : Row → ℕ → ℕ → List ℕ → Frame
-frameOf row target source bytes = record { id = identifierOf row target source; bytes = bytes }
+frameOf row target source bytes = record { id = identifierOf row target source; length = row .2; bytes = bytes }
 
 -- a number in 4 bytes, little endian
 abbrev pub fourBytes : ℕ → List ℕ
 fourBytes n = n % 256 ∷ n / 0x100 % 256 ∷ n / 0x1_0000 % 256 ∷ n / 0x100_0000 ∷ []
 
--- the first eight of a list of bytes: a frame's bytes are eight
+-- the data: a frame's list of bytes has eight, by its type
 abbrev pub eightOf : List ℕ → List ℕ
 eightOf l =
     getD l 0 0 ∷ getD l 1 0 ∷ getD l 2 0 ∷ getD l 3 0 ∷ getD l 4 0 ∷ getD l 5 0 ∷ getD l 6 0 ∷ getD l 7 0 ∷ []
 
 unfoldable pub recordOf : Frame → List ℕ
-recordOf f = fourBytes (f .id) ++ (8 ∷ eightOf (f .bytes))
+recordOf f = fourBytes (f .id) ++ (f .length ∷ eightOf (f .bytes))
 
 -- the records of several frames, one after the other
 unfoldable pub recordsOf : List Frame → List ℕ

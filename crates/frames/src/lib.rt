@@ -12,7 +12,8 @@ use messages::table::Row;
 
 pub struct Frame {
     pub id: u32,
-    pub bytes: [u8; 8],
+    pub length: u8,
+    pub bytes: [u8; Frame::DATA],
 }
 
 impl Frame {
@@ -28,22 +29,24 @@ impl Frame {
     {
         Frame {
             id: identifier::identifier_of(row, target, source),
+            length: row.2,
             bytes,
         }
     }
 
-    // Identifier in 4 bytes little endian, the length 8, the data.
+    // Identifier in 4 bytes little endian, the length (8 in every row that we send), the data.
     pub fn record(self) -> [u8; Self::RECORD]
         ensures { λ r. ⌜ r ≡ recordOf self ⌝ }
     {
         let id = self.id;
+        let n = self.length;
         let d = self.bytes;
         [
             (id % 256) as u8,
             (id / 0x100 % 256) as u8,
             (id / 0x1_0000 % 256) as u8,
             (id / 0x100_0000) as u8,
-            8,
+            n,
             d[0],
             d[1],
             d[2],

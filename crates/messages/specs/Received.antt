@@ -1,41 +1,67 @@
 -- Which message a received PF is, read off the table (01, "Identifier and message numbers", and number 7).
 use Prim.Native.Nat.{ℕ}
-use mathlib.Core.Bool.{cond}
+use mathlib.Core.Bool.{Bool, false, cond, _||_}
 use mathlib.Core.List.{List, [], _∷_}
 use lib.Dec.{eqb}
 use Rattle.messages.specs.declared.table.Row.{Row}
+use Rattle.messages.specs.declared.received.Charge.{Charge}
+use Rattle.messages.specs.declared.received.Charge.the-variants.{Cim, Cvm, Cmp, Crm, Ccs, Cst, Cem}
+use Rattle.messages.specs.declared.received.Query.{Query}
+use Rattle.messages.specs.declared.received.Query.the-variants.{Acv, Act}
 use Rattle.messages.specs.declared.received.Message.{Message}
-use Rattle.messages.specs.declared.received.Message.the-variants.{Cim, Cvm, Cmp, Crm, Ccs, Cst, Cem, Acv, Act}
+use Rattle.messages.specs.declared.received.Message.the-variants as message
 use Rattle.messages.specs.declared.received.Recognized.{Recognized}
 use Rattle.messages.specs.declared.received.Recognized.the-variants.{As, Refused}
 use Rattle.messages.specs.Table.{CIM, CVM, CMP, CRM, CCS, CST, CEM, ACV, ACT}
 
 -- the row of each of the nine
+abbrev pub chargeRow : Charge → Row
+chargeRow Cim = CIM
+chargeRow Cvm = CVM
+chargeRow Cmp = CMP
+chargeRow Crm = CRM
+chargeRow Ccs = CCS
+chargeRow Cst = CST
+chargeRow Cem = CEM
+
+abbrev pub queryRow : Query → Row
+queryRow Acv = ACV
+queryRow Act = ACT
+
 abbrev pub rowOf : Message → Row
-rowOf Cim = CIM
-rowOf Cvm = CVM
-rowOf Cmp = CMP
-rowOf Crm = CRM
-rowOf Ccs = CCS
-rowOf Cst = CST
-rowOf Cem = CEM
-rowOf Acv = ACV
-rowOf Act = ACT
+rowOf (message.Charge c) = chargeRow c
+rowOf (message.Query q) = queryRow q
 
 -- the place of each in the table
+abbrev pub chargePlace : Charge → ℕ
+chargePlace Cim = 0
+chargePlace Cvm = 1
+chargePlace Cmp = 2
+chargePlace Crm = 3
+chargePlace Ccs = 4
+chargePlace Cst = 5
+chargePlace Cem = 6
+
+abbrev pub queryPlace : Query → ℕ
+queryPlace Acv = 7
+queryPlace Act = 8
+
 abbrev pub placeOf : Message → ℕ
-placeOf Cim = 0
-placeOf Cvm = 1
-placeOf Cmp = 2
-placeOf Crm = 3
-placeOf Ccs = 4
-placeOf Cst = 5
-placeOf Cem = 6
-placeOf Acv = 7
-placeOf Act = 8
+placeOf (message.Charge c) = chargePlace c
+placeOf (message.Query q) = queryPlace q
 
 abbrev pub nine : List Message
-nine = Cim ∷ Cvm ∷ Cmp ∷ Crm ∷ Ccs ∷ Cst ∷ Cem ∷ Acv ∷ Act ∷ []
+nine =
+    message.Charge Cim
+    ∷ message.Charge Cvm
+    ∷ message.Charge Cmp
+    ∷ message.Charge Crm
+    ∷ message.Charge Ccs
+    ∷ message.Charge Cst
+    ∷ message.Charge Cem
+    ∷ message.Query Acv
+    ∷ message.Query Act
+    ∷ []
 
 -- the first of the messages whose row has this PF; where none has, 7: "PF not one of the nine"
 abbrev pub firstWith : ℕ → List Message → Recognized
@@ -45,7 +71,16 @@ firstWith pf (m ∷ ms) = cond (eqb pf (rowOf m .0)) (As m) (firstWith pf ms)
 abbrev pub recognizedOf : ℕ → Recognized
 recognizedOf pf = firstWith pf nine
 
--- the number of the answer: 0 is taken
+-- the paper's number for each case of the answer; 0 where no check on the PF refuses
 abbrev pub recognizedNumber : Recognized → ℕ
 recognizedNumber (As m) = 0
 recognizedNumber (Refused n) = n
+
+-- one of the messages has this PF
+abbrev pub someHas : ℕ → List Message → Bool
+someHas pf [] = false
+someHas pf (m ∷ ms) = eqb pf (rowOf m .0) || someHas pf ms
+
+-- 7: "PF not one of the nine"
+abbrev pub pfNumber : ℕ → ℕ
+pfNumber pf = cond (someHas pf nine) 0 7

@@ -13,9 +13,6 @@ pub struct Identifier {
 }
 
 impl Identifier {
-    // The first number that is no identifier: 2^29.
-    pub const END: u32 = 0x2000_0000;
-
     // The parts of an identifier.
     pub fn parts(id: u32) -> Identifier
         ensures { λ r. ⌜ r ≡ partsOf id ⌝ }

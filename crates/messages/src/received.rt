@@ -1,10 +1,12 @@
 // The nine messages that we take, told by their PF (01, "Identifier and message numbers", and number 7).
 ghost use mathlib.Core.Path.{_≡_};
-ghost use Rattle.messages.specs.Received.{rowOf, placeOf, recognizedOf};
+ghost use Rattle.messages.specs.Received.{rowOf, placeOf, chargePlace, queryPlace, recognizedOf, recognizedNumber, pfNumber};
+use crate::identifier::Identifier;
 use crate::table;
 use crate::table::Row;
 
-pub enum Message {
+// Station to us.
+pub enum Charge {
     Cim,
     Cvm,
     Cmp,
@@ -12,8 +14,17 @@ pub enum Message {
     Ccs,
     Cst,
     Cem,
+}
+
+// Any node to us: for cell voltages, for cell temperatures.
+pub enum Query {
     Acv,
     Act,
+}
+
+pub enum Message {
+    Charge(Charge),
+    Query(Query),
 }
 
 // A received PF: the message it is, or the number of the refusal.
@@ -22,20 +33,52 @@ pub enum Recognized {
     Refused(u8),
 }
 
-pub fn recognize(pf: u8) -> Recognized
-    ensures { λ r. ⌜ r ≡ recognizedOf pf ⌝ }
+// The number of the answer is 7 where the PF is not one of the nine.
+pub fn recognize(id: Identifier) -> Recognized
+    ensures number { λ r. ⌜ recognizedNumber r ≡ pfNumber (id .pf) ⌝ }
+    ensures answer { λ r. ⌜ r ≡ recognizedOf (id .pf) ⌝ }
 {
+    let pf = id.pf;
     match pf {
-        0x26 => Recognized::As(Message::Cim),
-        0x01 => Recognized::As(Message::Cvm),
-        0x08 => Recognized::As(Message::Cmp),
-        0x0a => Recognized::As(Message::Crm),
-        0x12 => Recognized::As(Message::Ccs),
-        0x16 => Recognized::As(Message::Cst),
-        0x1f => Recognized::As(Message::Cem),
-        0x1b => Recognized::As(Message::Acv),
-        0x1c => Recognized::As(Message::Act),
+        0x26 => Recognized::As(Message::Charge(Charge::Cim)),
+        0x01 => Recognized::As(Message::Charge(Charge::Cvm)),
+        0x08 => Recognized::As(Message::Charge(Charge::Cmp)),
+        0x0a => Recognized::As(Message::Charge(Charge::Crm)),
+        0x12 => Recognized::As(Message::Charge(Charge::Ccs)),
+        0x16 => Recognized::As(Message::Charge(Charge::Cst)),
+        0x1f => Recognized::As(Message::Charge(Charge::Cem)),
+        0x1b => Recognized::As(Message::Query(Query::Acv)),
+        0x1c => Recognized::As(Message::Query(Query::Act)),
         _ => Recognized::Refused(7),
+    }
+}
+
+impl Charge {
+    // Its place in the table.
+    fn place(self) -> usize
+        ensures { λ r. ⌜ r ≡ chargePlace self ⌝ }
+    {
+        match self {
+            Charge::Cim => table::CIM,
+            Charge::Cvm => table::CVM,
+            Charge::Cmp => table::CMP,
+            Charge::Crm => table::CRM,
+            Charge::Ccs => table::CCS,
+            Charge::Cst => table::CST,
+            Charge::Cem => table::CEM,
+        }
+    }
+}
+
+impl Query {
+    // Its place in the table.
+    fn place(self) -> usize
+        ensures { λ r. ⌜ r ≡ queryPlace self ⌝ }
+    {
+        match self {
+            Query::Acv => table::ACV,
+            Query::Act => table::ACT,
+        }
     }
 }
 
@@ -45,15 +88,8 @@ impl Message {
         ensures { λ r. ⌜ r ≡ placeOf self ⌝ }
     {
         match self {
-            Message::Cim => table::CIM,
-            Message::Cvm => table::CVM,
-            Message::Cmp => table::CMP,
-            Message::Crm => table::CRM,
-            Message::Ccs => table::CCS,
-            Message::Cst => table::CST,
-            Message::Cem => table::CEM,
-            Message::Acv => table::ACV,
-            Message::Act => table::ACT,
+            Message::Charge(c) => c.place(),
+            Message::Query(q) => q.place(),
         }
     }
 

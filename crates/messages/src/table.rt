@@ -4,7 +4,7 @@ ghost use Prim.Native.Nat.{_<_};
 ghost use Rattle.messages.specs.Table.{rowAt};
 
 // A message: PF, priority, length (of a received one the least), and the PS of a broadcast (0 where PS is the target).
-pub struct Row(pub u8, pub u8, pub usize, pub u8);
+pub struct Row(pub u8, pub u8, pub u8, pub u8);
 
 pub const ROWS: [Row; 26] = [
     Row(0x26, 0, 3, 0), // CIM, from a station
@@ -88,7 +88,7 @@ pub const VOLTAGES: usize = 24;
 
 pub const TEMPERATURES: usize = 25;
 
-// Any row of the table: the one promise that the whole table is the paper's.
+// Any row of the table, by its place: the table is the paper's, row by row.
 pub fn row_at(place: usize) -> Row
     requires { ⌜ place < 26 ⌝ }
     ensures { λ r. ⌜ r ≡ rowAt place ⌝ }

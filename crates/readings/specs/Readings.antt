@@ -1,6 +1,7 @@
 -- The readings of a tick (01, "Readings").
-use Prim.Native.Nat.{ℕ, _-_, _/_, _%_}
+use Prim.Native.Nat.{ℕ, _-_}
 use mathlib.Core.Bool.{Bool, _&&_}
+use lib.Bits.{bitAnd}
 use lib.Dec.{eqb, leb}
 use lib.IntN.{ℤ, pos, negsuc, natAbs, _-ℤ_}
 use lib.Signed.{leZ, ltZ}
@@ -14,14 +15,10 @@ currentOk c = leZ (negsuc 19999) c && leZ c (pos 4000)
 unfoldable pub inRange : Readings → Bool
 inRange r = leb (r .one) 127 && (leb (r .soc) 100 && currentOk (r .current))
 
--- a bit of a byte is set: 80 hex is 2^7, 20 hex is 2^5
-abbrev pub bit : ℕ → ℕ → ℕ
-bit place byte = byte / place % 2
-
--- charge is wanted when status byte two has 80 hex set and 20 hex clear, and active faults has none of bits 8 to 2 (mask FE: what is
--- left of the byte without bit 1, the spare one, is 0)
+-- charge is wanted when status byte two has 80 hex set and 20 hex clear, and active faults has none of bits 8 to 2 (mask FE)
 unfoldable pub wantedOf : Readings → Bool
-wantedOf r = eqb (bit 0x80 (r .two)) 1 && (eqb (bit 0x20 (r .two)) 0 && eqb (r .faults .active / 2) 0)
+wantedOf r =
+    eqb (bitAnd (r .two) 0x80) 0x80 && (eqb (bitAnd (r .two) 0x20) 0 && eqb (bitAnd (r .faults .active) 0xfe) 0)
 
 -- a current, positive into the pack, is above a maximum in tenths
 unfoldable pub aboveOf : ℤ → ℕ → Bool

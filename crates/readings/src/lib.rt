@@ -76,7 +76,7 @@ impl Readings {
     {
         let two = self.two;
         let active = self.faults.active;
-        (two / 128 % 2 == 1) & ((two / 32 % 2 == 0) & (active / 2 == 0))
+        (two & 0x80 == 0x80) & ((two & 0x20 == 0) & (active & 0xfe == 0))
     }
 
     pub fn current_above(self, maximum: u16) -> bool

@@ -19,7 +19,7 @@ use Rattle.settings.specs.declared.SettingsRead.{SettingsRead}
 use Rattle.settings.specs.declared.SettingsRead.the-variants.{Read, Refused}
 use Rattle.settings.specs.Range.{within, distinct, eachGood, stationList, goodStations, inRange}
 use Rattle.settings.specs.Record.{field, versionList, recordOf}
-use Rattle.settings.specs.Read.{headAt, layoutOf, settingsOf, readOf}
+use Rattle.settings.specs.Read.{headAt, layoutOf, settingsOf, recordNumber, answerNumber, readOf}
 use Rattle.settings.specs.Write.{Wrote, writeNumber, writtenOf, laterOf}
 use Rattle.settings.proofs.Tests.{and-left, and-right}
 
@@ -124,19 +124,25 @@ module _ (s : List ℕ) (n : ℕ) (count : n ≡ wordAt s 25) where
   layout-yes t a b c d e f g ha hb hc hd he hf hg =
       let w : within 1 4 (wordAt s 25) ≡ true = rw (← count) t in rw w (cc)
 
+-- what reading answers, in each of the three cases: the number, and the answer itself
+abbrev pub Says : List ℕ → SettingsRead → Type 0
+Says s r = (answerNumber r ≡ recordNumber s) × (r ≡ readOf s)
+
 module _ (s : List ℕ) (l : Bool) (layout : l ≡ layoutOf s) where
-  pub read-1 : l ≡ false → Refused 1 ≡ readOf s
-  unfolding readOf
-  read-1 e = simp (sym layout ∙ e)
+  pub read-1 : l ≡ false → Says s (Refused 1)
+  unfolding recordNumber readOf
+  read-1 e = (simp (sym layout ∙ e), simp (sym layout ∙ e))
 
   module _ (taken : l ≡ true) (x : Settings) (values : x ≡ settingsOf s) (b : Bool) (range : b ≡ inRange x) where
-    pub read-2 : b ≡ false → Refused 2 ≡ readOf s
-    unfolding readOf
-    read-2 e = simp (sym layout ∙ taken, sym (ap inRange values) ∙ (sym range ∙ e))
+    pub read-2 : b ≡ false → Says s (Refused 2)
+    unfolding recordNumber readOf
+    read-2 e =
+        (simp (sym layout ∙ taken, sym (ap inRange values) ∙ (sym range ∙ e)), simp (sym layout ∙ taken, sym (ap inRange values) ∙ (sym range ∙ e)))
 
-    pub read-0 : b ≡ true → Read x ≡ readOf s
-    unfolding readOf
-    read-0 e = simp (values, sym layout ∙ taken, sym (ap inRange values) ∙ (sym range ∙ e))
+    pub read-0 : b ≡ true → Says s (Read x)
+    unfolding recordNumber readOf
+    read-0 e =
+        (simp (sym layout ∙ taken, sym (ap inRange values) ∙ (sym range ∙ e)), simp (values, sym layout ∙ taken, sym (ap inRange values) ∙ (sym range ∙ e)))
 
 -- ---- the record
 

@@ -21,6 +21,7 @@ use Rattle.settings.specs.declared.SettingsRead.the-variants.{Read, Refu
 use Rattle.settings.specs.Range.{within, inRange, goodStations, stationList}
 use Rattle.settings.specs.Record.{field, versionList, recordOf}
 use Rattle.settings.specs.Read.{headAt, layoutOf, stationAt, stationsAt, versionsAt, settingsOf, readOf}
+use Rattle.settings.specs.Tidy.{tidy, tidyStations, Bytes}
 use Rattle.settings.specs.Write.{Wrote, writeNumber, writtenOf, laterOf}
 use Rattle.settings.proofs.Tests.{and-left, and-right}
 use Rattle.settings.proofs.Laws.{range-some, range-four, length-record, within-least, within-most, read-0}
@@ -35,32 +36,6 @@ one-to-four P p1 p2 p3 p4 (suc (suc (suc (suc zero)))) h k = p4
 one-to-four P p1 p2 p3 p4 (suc (suc (suc (suc (suc n))))) h k = absurd (omega arith)
 
 -- ---- reading what was written
-
--- the settings with 0 in the places past the last station: what no record can say is not kept
-abbrev pub placed : ℕ → ℕ → ℕ → ℕ
-placed n i a = cond (ltb i n) a 0
-
-abbrev pub tidyStations : Stations → Stations
-tidyStations s =
-    record {
-      count = s .count;
-      first = placed (s .count) 0 (s .first);
-      second = placed (s .count) 1 (s .second);
-      third = placed (s .count) 2 (s .third);
-      fourth = placed (s .count) 3 (s .fourth);
-    }
-
-abbrev pub tidy : Settings → Settings
-tidy x =
-    record {
-      own = x .own;
-      cell = x .cell;
-      current = x .current;
-      pack = x .pack;
-      temperature = x .temperature;
-      stations = tidyStations (x .stations);
-      versions = x .versions;
-    }
 
 word-back : (w : ℕ) → w % 256 + w / 256 * 256 ≡ w
 word-back w = omega arith
@@ -109,6 +84,7 @@ module _ (x : Settings) where
         versions = x .versions;
       }
 
+  -- the record has the layout, and its values are these
   record Back (n : ℕ) : Type 0 where
     layout : true ≡ layoutOf (recordOf (of n))
     values : settingsOf (recordOf (of n)) ≡ tidy (of n)
@@ -121,6 +97,11 @@ module _ (x : Settings) where
       (record { layout = refl; values = words-back x (tidyStations (of 2 .stations)) })
       (record { layout = refl; values = words-back x (tidyStations (of 3 .stations)) })
       (record { layout = refl; values = words-back x (tidyStations (of 4 .stations)) })
+
+-- the record of any values with 1 to 4 stations has the layout: reading it can only be refused for a range
+pub record-has-layout : (x : Settings) → 1 ≤ x .stations .count → x .stations .count ≤ 4 → layoutOf (recordOf x) ≡ true
+unfolding of
+record-has-layout x h k = sym (back-values x (x .stations .count) h k .layout)
 
 -- the list of stations does not look past the last, and so neither does a value's range
 tidy-list : (s : Stations) → 1 ≤ s .count → s .count ≤ 4 → stationList (tidyStations s) ≡ stationList s
@@ -140,7 +121,7 @@ pub read-written : (x : Settings) → inRange x ≡ true → readOf (recordOf x)
 unfolding of
 read-written x e =
     let b = back-values x (x .stations .count) (range-some x e) (range-four x e) in
-    sym (read-0 (recordOf x) true (b .layout) refl (tidy x) (sym (b .values)) true (sym (tidy-range x e)) refl)
+    sym (read-0 (recordOf x) true (b .layout) refl (tidy x) (sym (b .values)) true (sym (tidy-range x e)) refl .1)
 
 -- a write of number 0 had its settings in range
 taken : (b short : Bool) → _≡_ {A = ℕ} (cond b (cond short 17 0) 2) 0 → b ≡ true
@@ -178,10 +159,6 @@ split (suc k) at s h =
     ∙ ap (λ (t : List ℕ). getD s at 0 ∷ t)
     (ap (λ (i : ℕ). drop i s) (sym (add-one at))
     ∙ (split k (at + 1) s (omega arith) ∙ (let e : at + 1 + k ≡ at + suc k = omega arith in ap (λ (i : ℕ). elems k (at + 1) s ++ drop i s) e)))
-
--- every number of the list is a byte
-pub Bytes : List ℕ → Type 0
-Bytes s = (k : ℕ) → getD s k 0 < 256
 
 module _ (s : List ℕ) (bytes : Bytes s) where
   -- a field's head, and then its value
@@ -264,15 +241,41 @@ module _ (s : List ℕ) (bytes : Bytes s) where
       (whole
       ∙ rw (own-elems, word-elems 7, word-elems 12, word-elems 17, word-elems 22, stations-elems n some four, versions-elems n some four))
 
--- what a record that was read says of its layout and its values
-read-layout : (l b : Bool) (x y : Settings) → cond l (cond b (Read y) (Refused 2)) (Refused 1) ≡ Read x → (l ≡ true) × (y ≡ x)
-read-layout true true x y e = (refl, cc)
-read-layout true false x y e = let z : _≡_ {A = ℕ} 0 1 = cc in absurd (omega arith)
-read-layout false b x y e = let z : _≡_ {A = ℕ} 0 1 = cc in absurd (omega arith)
+-- what a record that was read says of its layout, its ranges and its values
+record Taken (l b : Bool) (x y : Settings) : Type 0 where
+  layout : l ≡ true
+  range : b ≡ true
+  values : y ≡ x
 
--- writing what was read gives the bytes back
-pub written-read : (s : List ℕ) → Bytes s → (x : Settings) → readOf s ≡ Read x → recordOf x ≡ s
-unfolding readOf
-written-read s bytes x e =
-    let h = read-layout (layoutOf s) (inRange (settingsOf s)) x (settingsOf s) e in
-    rw (← h .1) (layout-exact s bytes (h .0))
+taken-read : (l b : Bool) (x y : Settings) → cond l (cond b (Read y) (Refused 2)) (Refused 1) ≡ Read x → Taken l b x y
+taken-read true true x y e = record { layout = refl; range = refl; values = cc }
+taken-read true false x y e = let z : _≡_ {A = ℕ} 0 1 = cc in absurd (omega arith)
+taken-read false b x y e = let z : _≡_ {A = ℕ} 0 1 = cc in absurd (omega arith)
+
+twice : (b : Bool) (v : ℕ) → cond b (cond b v 0) 0 ≡ cond b v 0
+twice true v = refl
+twice false v = refl
+
+tidy-values : (s : List ℕ) → tidy (settingsOf s) ≡ settingsOf s
+unfolding settingsOf stationsAt stationAt
+tidy-values s =
+    let n : ℕ = wordAt s 25 in
+    rw
+    (twice (ltb 0 n) (getD s 27 0), twice (ltb 1 n) (getD s 28 0), twice (ltb 2 n) (getD s 29 0), twice (ltb 3 n) (getD s 30 0))
+
+module _ (s : List ℕ) (x : Settings) (e : readOf s ≡ Read x) where
+  read-taken : Taken (layoutOf s) (inRange (settingsOf s)) x (settingsOf s)
+  unfolding readOf
+  read-taken = taken-read (layoutOf s) (inRange (settingsOf s)) x (settingsOf s) e
+
+  -- settings that were read are in range
+  pub read-in-range : inRange x ≡ true
+  read-in-range = rw (← read-taken .values) (read-taken .range)
+
+  -- writing what was read gives the bytes back
+  pub written-read : Bytes s → recordOf x ≡ s
+  written-read bytes = rw (← read-taken .values) (layout-exact s bytes (read-taken .layout))
+
+  -- settings that were read have 0 in the places past the last station
+  pub read-is-tidy : tidy x ≡ x
+  read-is-tidy = rw (← read-taken .values) (tidy-values s)

@@ -63,11 +63,15 @@ settingsOf s =
       versions = versionsAt s (30 + stationCount s);
     }
 
--- 1 where the layout is not the above, then 2 where a value is outside its range
+-- 1 where the layout is not the above, then 2 where a value is outside its range; 0 is taken
+unfoldable pub recordNumber : List ℕ → ℕ
+recordNumber s = cond (layoutOf s) (cond (inRange (settingsOf s)) 0 2) 1
+
+-- the paper's number for each case of the answer
+abbrev pub answerNumber : SettingsRead → ℕ
+answerNumber (Read x) = 0
+answerNumber (Refused n) = n
+
+-- the answer: the settings, or the number of the refusal
 unfoldable pub readOf : List ℕ → SettingsRead
 readOf s = cond (layoutOf s) (cond (inRange (settingsOf s)) (Read (settingsOf s)) (Refused 2)) (Refused 1)
-
--- the number of the answer: 0 is taken
-abbrev pub readNumber : SettingsRead → ℕ
-readNumber (Read x) = 0
-readNumber (Refused n) = n

@@ -1,7 +1,7 @@
 // A settings record read: the whole layout first, then the ranges (01, "Settings record", numbers 1 and 2).
 ghost use mathlib.Core.Path.{_≡_};
 ghost use Prim.Native.Nat.{_≤_};
-ghost use Rattle.settings.specs.Read.{headAt, layoutOf, stationAt, stationsAt, versionsAt, settingsOf, readOf};
+ghost use Rattle.settings.specs.Read.{headAt, layoutOf, stationAt, stationsAt, versionsAt, settingsOf, recordNumber, answerNumber, readOf};
 use crate::Settings;
 use crate::SettingsRead;
 use crate::Stations;
@@ -93,8 +93,10 @@ fn values(s: &[u8]) -> Settings
     }
 }
 
+// The settings of a record, or the number of the refusal.
 pub fn read_settings(s: &[u8]) -> SettingsRead
-    ensures { λ r. ⌜ r ≡ readOf (now (s .entry)) ⌝ }
+    ensures number { λ r. ⌜ answerNumber r ≡ recordNumber (now (s .entry)) ⌝ }
+    ensures answer { λ r. ⌜ r ≡ readOf (now (s .entry)) ⌝ }
 {
     if layout(s) {
         let x = values(s);

@@ -1,5 +1,5 @@
-// Units. Tenths of a volt and hundredths of a volt are two types, so that a pack limit cannot meet a cell limit without a
-// conversion that says so (01, "What the box does"); and a signed number is taken apart by its sign, in one place, so that all that
+// Units. Tenths of a volt and hundredths of a volt are two types, so that a pack limit and a cell limit do
+// not compare, and going from one to the other takes a step that says so (01, "What the box does"); and a signed number is taken apart by its sign, in one place, so that all that
 // is said of it elsewhere is said of plain numbers. This crate may not know messages, settings or states.
 ghost use mathlib.Core.Path.{_≡_};
 ghost use lib.Dec.{leb};
