@@ -1,0 +1,22 @@
+-- `layouts::erm` meets its contract, byte by byte. Assumes nothing.
+use mathlib.Core.Path.{_∙_}
+use Rattle.layouts.specs.Layouts.{ermOf}
+use borrow.Author.Needs.{needs}
+use Rattle.layouts.proofs.erm.Statement.{statement}
+use Rattle.layouts.proofs.erm.Tie as tie
+
+mark-requires : tie.Need-mark-requires
+mark-requires c κs = search needs
+
+array-copy-out-new : tie.Need-array-copy-out-new
+array-copy-out-new c = search needs
+
+new-requires : tie.Need-new-requires
+new-requires c κs = search needs
+
+returns : tie.Need-returns
+unfolding ermOf
+returns c = c .new .ensures ∙ rw (c .before .before .mark .ensures)
+
+pub erm-spec : {M : Type 1} → statement M
+erm-spec = tie.close (tie.spec mark-requires array-copy-out-new new-requires returns)

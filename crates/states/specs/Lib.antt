@@ -1,2 +1,0 @@
-pub mod Offer
-pub mod Message
