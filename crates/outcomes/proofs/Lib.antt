@@ -1,0 +1,3 @@
+pub mod Rest
+pub mod Currents
+pub mod WorkedRows

@@ -1,0 +1,2 @@
+pub mod Offer
+pub mod Message
