@@ -35,11 +35,12 @@ unfoldable pub waitedOf : Session → ℕ → ℕ → State → Session
 waitedOf s top back st =
     record { station = s .station; silence = silenceOf (s .silence); count = nextCount top back (s .count); state = st }
 
--- a tick of Stopping or Error: the count grows; 600 ends them before it could grow on
+-- a tick of Stopping or Error: the count grows, and 600 ends them before it could go back
 unfoldable pub endedOf : Session → State → Session
-endedOf s st = record { station = s .station; silence = s .silence; count = nextCount 600 600 (s .count); state = st }
+endedOf s st = record { station = s .station; silence = s .silence; count = nextCount 604 600 (s .count); state = st }
 
--- after 5 comes 1 where only "each 5" and "has one gone out" are asked of the count, after 15 comes 6 for ECP's 5, 15, 25
+-- after 5 comes 1 where only "each 5" and "has one gone out" are asked of the count, after 15 comes 6 for ECP's 5, 15, 25, and after
+-- 604 comes 600 where "each 5" and "at 600" are
 unfoldable pub advanceIn : Session → State → Session
 advanceIn s Idle = s
 advanceIn s Offered = waitedOf s 5 1 Offered

@@ -56,7 +56,7 @@ fn waited(s: Session, top: u16, back: u16, state: State) -> Session
 fn ended(s: Session, state: State) -> Session
     ensures { λ r. ⌜ r ≡ endedOf s state ⌝ }
 {
-    let count = phases::next_count(600, 600, s.count);
+    let count = phases::next_count(604, 600, s.count);
     Session {
         station: s.station,
         silence: s.silence,
