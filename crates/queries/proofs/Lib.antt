@@ -1,0 +1,4 @@
+pub mod Four
+pub mod Outcomes
+pub mod WorkedRows
+pub mod Lists
