@@ -4,12 +4,13 @@ use Prim.Native.Nat.{ℕ, zero, suc, _+_, _-_, _*_, _≤_, _<_}
 use mathlib.Core.Path.{_≡_, refl, sym, _∙_, ap}
 use mathlib.Core.List.{List, [], _∷_, _++_}
 use mathlib.Core.Bool.{Bool, true, false, cond}
-use native.Mathlib.Nat.{le-of-suc-le-suc, not-suc-le-zero}
+use native.Mathlib.Nat.{le-of-suc-le-suc, not-suc-le-zero, mul-div-le, lt-mul-div-succ}
 use native.Mathlib.Omega.{arith}
 use borrow.Author.Tests.{leb-true, leb-false, eqb-true, eqb-false, eq-eqb, ne-eqb}
 use lib.Dec.{leb, eqb}
 use lib.ListN.{length, getD}
-use Rattle.cells.specs.Summaries.{sumOf, highestOf, lowestOf, indexFrom}
+use Rattle.cells.specs.declared.Summary.{Summary}
+use Rattle.cells.specs.Summaries.{sumOf, highestOf, lowestOf, indexFrom, averageOf}
 
 -- The sum of one cell is that cell, and a table in two parts has the sum of both.
 pub sum-one : (x : ℕ) → sumOf (x ∷ []) ≡ x
@@ -20,6 +21,11 @@ pub sum-parts : (xs ys : List ℕ) → sumOf (xs ++ ys) ≡ sumOf xs + sumOf ys
 unfolding sumOf
 sum-parts [] ys = omega arith
 sum-parts (x ∷ xs) ys = omega (arith, sum-parts xs ys)
+
+-- The average is rounded down: that many times the count is at most the sum, and one more is above it.
+pub average-floor :
+    (s : Summary) → 0 < s .count → (s .count * averageOf s ≤ s .sum) × (s .sum < s .count * (averageOf s + 1))
+average-floor s h = (mul-div-le (s .sum) (s .count), lt-mul-div-succ (s .sum) h)
 
 -- a value that a table has: where it stands, from 0
 pub record In (value : ℕ) (xs : List ℕ) : Type 0 where
