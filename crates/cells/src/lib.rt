@@ -1,6 +1,9 @@
 // The cell tables that a tick lends: what is said of a table as a whole (its count, sum, highest and lowest), whether its cells are in
 // range, and its groups as they are sent (01, "Readings", "Broadcasts and cell answers"). This crate may not know sessions,
 // queries or when anything is sent.
+pub mod figures;
+pub mod groups;
+pub mod tables;
 
 // A cell's value and its index from 1.
 pub struct Cell {

@@ -1,0 +1,49 @@
+-- The counter that is kept and the number of accepted ticks that grows for ever pass the same tests, after any number of ticks.
+-- Assumes nothing.
+use Prim.Native.Nat.{ℕ, zero, suc, _+_, _*_, _/_, _%_, _<_, _≤_}
+use mathlib.Core.Path.{_≡_, refl, sym, _∙_, ap}
+use mathlib.Core.Bool.{Bool, true, false, not, cond}
+use mathlib.Core.List.{List}
+use native.Mathlib.Omega.{arith}
+use borrow.Author.Tests.{lt-ltb, le-ltb, ltb-true, ltb-false, eq-eqb, ne-eqb, eqb-true}
+use lib.Dec.{eqb, ltb}
+use Rattle.frames.specs.declared.Frame.{Frame}
+use Rattle.settings.specs.declared.Versions.{Versions}
+use Rattle.readings.specs.declared.Readings.{Readings}
+use Rattle.cells.specs.declared.Cells.{Cells}
+use Rattle.broadcasts.specs.declared.beat.Beat.{Beat}
+use Rattle.broadcasts.specs.Beat.{dueAt, heartbeatAt, firstBeat, nextBeat}
+use Rattle.broadcasts.specs.Sendings.{broadcastAt}
+
+-- the counter after n accepted ticks
+unfoldable pub beatAfter : ℕ → Beat
+beatAfter zero = firstBeat
+beatAfter (suc n) = nextBeat (beatAfter n)
+
+next-tick : (t n : ℕ) (b : Bool) → ltb t 59 ≡ b → t ≡ n % 60 → cond b (t + 1) 0 ≡ suc n % 60
+next-tick t n true e h = omega (arith, ltb-true t 59 e, h)
+next-tick t n false e h = omega (arith, ltb-false t 59 e, h)
+
+-- it is the number of ticks modulo 60
+pub tick-is : (n : ℕ) → beatAfter n .tick ≡ n % 60
+unfolding beatAfter
+tick-is zero = refl
+tick-is (suc n) = next-tick (beatAfter n .tick) n (ltb (beatAfter n .tick) 59) refl (tick-is n)
+
+due-folds : (n : ℕ) → n % 60 % 30 ≡ n % 30
+due-folds n = omega arith
+
+heartbeat-folds : (n : ℕ) → n % 60 / 30 % 2 ≡ n / 30 % 2
+heartbeat-folds n = omega arith
+
+pub due-in-step : (n : ℕ) → dueAt (beatAfter n .tick) ≡ dueAt n
+due-in-step n = rw (tick-is n, due-folds n)
+
+pub heartbeat-in-step : (n : ℕ) → heartbeatAt (beatAfter n .tick) ≡ heartbeatAt n
+heartbeat-in-step n = rw (tick-is n, heartbeat-folds n)
+
+-- so a tick broadcasts what the growing number says
+pub in-step :
+    (n own : ℕ) (versions : Versions) (r : Readings) (c : Cells)
+    → broadcastAt (beatAfter n .tick) own versions r c ≡ broadcastAt n own versions r c
+in-step n own versions r c = rw (due-in-step n, heartbeat-in-step n)

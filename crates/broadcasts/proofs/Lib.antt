@@ -1,0 +1,2 @@
+pub mod InStep
+pub mod Laws

@@ -1,0 +1,75 @@
+-- The five broadcasts (01, "Broadcasts and cell answers"). Every frame has 8 data bytes, zero after its fields; words are little endian.
+use Prim.Native.Nat.{ℕ, _+_, _%_}
+use mathlib.Core.Bool.{Bool, cond}
+use mathlib.Core.List.{List, [], _∷_, _++_}
+use Rattle.buffers.specs.Words.{wordBytes}
+use Rattle.messages.specs.declared.table.Row.{Row}
+use Rattle.messages.specs.Table.{PS, CVS, CTS, FWS, EC}
+use Rattle.frames.specs.declared.Frame.{Frame}
+use Rattle.frames.specs.Frame.{frameOf}
+use Rattle.settings.specs.declared.Versions.{Versions}
+use Rattle.readings.specs.declared.Readings.{Readings}
+use Rattle.readings.specs.Readings.{bitsOf}
+use Rattle.cells.specs.declared.Cells.{Cells}
+use Rattle.cells.specs.Summaries.{averageOf}
+use Rattle.broadcasts.specs.declared.Broadcasts.{Broadcasts}
+
+-- status one with 80 hex, or with it clear (status byte one is 0 to 127, so the rest of it is all of it)
+abbrev pub statusByte : Bool → ℕ → ℕ
+statusByte heartbeat one = cond heartbeat (one % 0x80 + 0x80) (one % 0x80)
+
+-- how many cells there are, as PS says it
+abbrev pub countByte : ℕ → ℕ
+countByte count = count
+
+-- a cell's index, as CVS and CTS say it
+abbrev pub indexByte : ℕ → ℕ
+indexByte index = index
+
+-- a broadcast's PS stands in its row, so no target is named
+abbrev pub broadcast : Row → ℕ → List ℕ → Frame
+broadcast row own bytes = frameOf row 0 own bytes
+
+-- PS: status one; status two; SOC; cells; current as two's complement; pack voltage
+unfoldable pub psOf : ℕ → Bool → Readings → Cells → Frame
+psOf own heartbeat r c =
+    broadcast PS own
+    (statusByte heartbeat (r .one) ∷ r .two ∷ r .soc ∷ countByte (c .volts .count)
+    ∷ (wordBytes (bitsOf (r .current)) ++ wordBytes (r .pack .0)))
+
+-- CVS: average rounded down, highest index, highest, lowest index, lowest
+unfoldable pub cvsOf : ℕ → Cells → Frame
+cvsOf own c =
+    broadcast CVS own
+    (wordBytes (averageOf (c .volts))
+    ++ (indexByte (c .volts .highest .index) ∷ wordBytes (c .volts .highest .value)
+    ++ (indexByte (c .volts .lowest .index) ∷ wordBytes (c .volts .lowest .value))))
+
+-- CTS: highest index and value, lowest index and value, average of the sent bytes rounded down
+unfoldable pub ctsOf : ℕ → Cells → Frame
+ctsOf own c =
+    broadcast CTS own
+    (indexByte (c .heat .highest .index) ∷ c .heat .highest .value
+    ∷ indexByte (c .heat .lowest .index) ∷ c .heat .lowest .value
+    ∷ averageOf (c .heat) ∷ 0 ∷ 0 ∷ 0 ∷ [])
+
+-- FWS: active and latched faults, active and latched warnings
+unfoldable pub fwsOf : ℕ → Readings → Frame
+fwsOf own r =
+    broadcast FWS own
+    (r .faults .active ∷ r .faults .latched ∷ r .warnings .active ∷ r .warnings .latched ∷ 0 ∷ 0 ∷ 0 ∷ 0 ∷ [])
+
+-- EC: versions
+unfoldable pub ecOf : ℕ → Versions → Frame
+ecOf own v = broadcast EC own (v .first ∷ v .second ∷ v .third ∷ v .fourth ∷ v .fifth ∷ 0 ∷ 0 ∷ 0 ∷ [])
+
+-- the five of one sending
+abbrev pub broadcastsOf : ℕ → Versions → Bool → Readings → Cells → Broadcasts
+broadcastsOf own versions heartbeat r c =
+    record {
+      ps = psOf own heartbeat r c;
+      cvs = cvsOf own c;
+      cts = ctsOf own c;
+      fws = fwsOf own r;
+      ec = ecOf own versions;
+    }

@@ -1,0 +1,6 @@
+pub mod Temperatures
+pub mod Every
+pub mod Extremes
+pub mod Laws
+pub mod Bounds
+pub mod WorkedRows

@@ -1,0 +1,5 @@
+pub mod Tables
+pub mod Summaries
+pub mod Groups
+pub mod Walk
+pub mod Bounds

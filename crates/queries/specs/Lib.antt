@@ -1,0 +1,3 @@
+pub mod Waiting
+pub mod Asking
+pub mod Answering
