@@ -1,0 +1,18 @@
+-- `controller::Controller::query_to` meets its contract. Assumes nothing.
+use Rattle.controller.specs.Frame.{queryTo, withQueries}
+use borrow.Author.Needs.{needs}
+use Rattle.controller.proofs.Controller.query_to.Statement.{statement}
+use Rattle.controller.proofs.Controller.query_to.Tie as tie
+
+kind-of-requires : tie.Need-kind-of-requires
+kind-of-requires c κs = search needs
+
+ask-requires : tie.Need-ask-requires
+ask-requires c κs = search needs
+
+returns : tie.Need-returns
+unfolding queryTo withQueries
+returns c = rw (c .before .before .before .before .ask .ensures, c .before .before .before .before .before .kind-of .ensures)
+
+pub query-to-spec : {M : Type 1} → statement M
+query-to-spec = tie.close (tie.spec kind-of-requires ask-requires returns)

@@ -1,0 +1,11 @@
+-- `controller::frame::is_listed` meets its contract. Assumes nothing.
+use Rattle.controller.proofs.Listed.{here-is}
+use Rattle.controller.specs.Frame.{listed}
+use Rattle.controller.proofs.frame.is_listed.Statement.{statement}
+use Rattle.controller.proofs.frame.is_listed.Tie as tie
+
+returns : tie.Need-returns
+returns c = let s = c .before .before .before .before .args .s in here-is (c .before .before .before .before .args .source) (s .first) (s .second) (s .third) (s .fourth) (s .count)
+
+pub is-listed-spec : {M : Type 1} → statement M
+is-listed-spec = tie.close (tie.spec returns)

@@ -1,0 +1,204 @@
+// A received frame (01, "Numbers returned", 3 to 13, in numeric order).
+ghost use mathlib.Core.Path.{_≡_};
+ghost use Rattle.controller.specs.Frame.{isIdle, listed, mayCharge, refused, withSession, contentTaken, chargeTo, kindOf, queryTo, messageTo, knownTo, notCan, flagsSet, notForUs, badSource, frameTo};
+use crate::Answer;
+use crate::Controller;
+use charge_messages::Content;
+use messages::identifier::Identifier;
+use messages::received;
+use messages::received::Charge;
+use messages::received::Message;
+use messages::received::Query;
+use messages::received::Recognized;
+use queries::Kind;
+use session::Taken;
+use settings::Stations;
+use states::State;
+
+pub fn is_idle(state: State) -> bool
+    ensures { λ r. ⌜ r ≡ isIdle state ⌝ }
+{
+    match state {
+        State::Idle => true,
+        _ => false,
+    }
+}
+
+// A station of the list.
+fn is_listed(source: u8, s: Stations) -> bool
+    ensures { λ r. ⌜ r ≡ listed source s ⌝ }
+{
+    let n = s.count;
+    ((0 < n) & (source == s.first))
+        | (((1 < n) & (source == s.second))
+            | (((2 < n) & (source == s.third)) | ((3 < n) & (source == s.fourth))))
+}
+
+fn kind_of(q: Query) -> Kind
+    ensures { λ r. ⌜ r ≡ kindOf q ⌝ }
+{
+    match q {
+        Query::Acv => Kind::Voltages,
+        Query::Act => Kind::Temperatures,
+    }
+}
+
+// 3: no identifier or length of CAN.
+fn not_can(id: u32, bytes: &[u8]) -> bool
+    ensures { λ r. ⌜ r ≡ notCan id (now (bytes .entry)) ⌝ }
+{
+    (0x2000_0000 <= id) | (8 < bytes.len())
+}
+
+// 4: reserved or data page set.
+fn flags_set(p: Identifier) -> bool
+    ensures { λ r. ⌜ r ≡ flagsSet p ⌝ }
+{
+    (p.reserved == 1) | (p.page == 1)
+}
+
+// 5: a broadcast, or for another target.
+fn not_for_us(own: u8, p: Identifier) -> bool
+    ensures { λ r. ⌜ r ≡ notForUs own p ⌝ }
+{
+    (240 <= p.pf) | (p.ps != own)
+}
+
+// 6: a source that no other node may have.
+fn bad_source(own: u8, p: Identifier) -> bool
+    ensures { λ r. ⌜ r ≡ badSource own p ⌝ }
+{
+    (p.source == own) | ((p.source == 254) | (p.source == 255))
+}
+
+impl Controller {
+    fn refused(self, number: u8) -> Answer
+        ensures { λ r. ⌜ r ≡ refused number self ⌝ }
+    {
+        Answer {
+            number: number,
+            controller: self,
+        }
+    }
+
+    // 9: in Idle a listed station may speak, else the session's own alone.
+    fn may_charge(self, source: u8) -> bool
+        ensures { λ r. ⌜ r ≡ mayCharge self source ⌝ }
+    {
+        let s = self.session;
+        let state = s.state;
+        if is_idle(state) {
+            is_listed(source, self.settings.stations)
+        } else {
+            source == s.station
+        }
+    }
+
+    fn with_session(self, t: Taken) -> Answer
+        ensures { λ r. ⌜ r ≡ withSession self t ⌝ }
+    {
+        let settings = self.settings;
+        let beat = self.beat;
+        let queries = self.queries;
+        let next = t.session;
+        Answer {
+            number: t.number,
+            controller: Controller {
+                settings: settings,
+                session: next,
+                beat: beat,
+                queries: queries,
+            },
+        }
+    }
+
+    // 10, then the session.
+    fn content_taken(self, source: u8, content: Content) -> Answer
+        ensures { λ r. ⌜ r ≡ contentTaken self source content ⌝ }
+    {
+        match content {
+            Content::Allowed(m) => {
+                let s = self.session;
+                self.with_session(s.message(self.settings, source, m))
+            }
+            Content::Refused(n) => self.refused(n),
+        }
+    }
+
+    fn charge_to(self, source: u8, k: Charge, bytes: &[u8]) -> Answer
+        ensures { λ r. ⌜ r ≡ chargeTo self source k (now (bytes .entry)) ⌝ }
+    {
+        if self.may_charge(source) {
+            self.content_taken(source, charge_messages::read_content(k, bytes))
+        } else {
+            self.refused(9)
+        }
+    }
+
+    fn query_to(self, source: u8, q: Query) -> Answer
+        ensures { λ r. ⌜ r ≡ queryTo self source q ⌝ }
+    {
+        let waiting = self.queries;
+        let asked = waiting.ask(source, kind_of(q));
+        let settings = self.settings;
+        let session = self.session;
+        let beat = self.beat;
+        let next = asked.queries;
+        Answer {
+            number: asked.number,
+            controller: Controller {
+                settings: settings,
+                session: session,
+                beat: beat,
+                queries: next,
+            },
+        }
+    }
+
+    fn message_to(self, source: u8, m: Message, bytes: &[u8]) -> Answer
+        ensures { λ r. ⌜ r ≡ messageTo self source m (now (bytes .entry)) ⌝ }
+    {
+        match m {
+            Message::Charge(k) => self.charge_to(source, k, bytes),
+            Message::Query(q) => self.query_to(source, q),
+        }
+    }
+
+    // 7 and 8.
+    fn known_to(self, source: u8, known: Recognized, bytes: &[u8]) -> Answer
+        ensures { λ r. ⌜ r ≡ knownTo self source known (now (bytes .entry)) ⌝ }
+    {
+        match known {
+            Recognized::As(m) => {
+                let row = m.row();
+                if bytes.len() < row.2 as usize {
+                    self.refused(8)
+                } else {
+                    self.message_to(source, m, bytes)
+                }
+            }
+            Recognized::Refused(n) => self.refused(n),
+        }
+    }
+
+    // ENTRY POINT. Any identifier, any data of any length, any controller.
+    pub fn frame(self, id: u32, bytes: &[u8]) -> Answer
+        ensures { λ r. ⌜ r ≡ frameTo self id (now (bytes .entry)) ⌝ }
+    {
+        if not_can(id, bytes) {
+            return self.refused(3);
+        }
+        let p = Identifier::parts(id);
+        if flags_set(p) {
+            return self.refused(4);
+        }
+        let own = self.settings.own;
+        if not_for_us(own, p) {
+            return self.refused(5);
+        }
+        if bad_source(own, p) {
+            return self.refused(6);
+        }
+        self.known_to(p.source, received::recognize(p), bytes)
+    }
+}
