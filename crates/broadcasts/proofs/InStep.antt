@@ -1,13 +1,11 @@
 -- The counter that is kept and the number of accepted ticks that grows for ever pass the same tests, after any number of ticks.
 -- Assumes nothing.
-use Prim.Native.Nat.{ℕ, zero, suc, _+_, _*_, _/_, _%_, _<_, _≤_}
-use mathlib.Core.Path.{_≡_, refl, sym, _∙_, ap}
-use mathlib.Core.Bool.{Bool, true, false, not, cond}
-use mathlib.Core.List.{List}
+use Prim.Native.Nat.{ℕ, zero, suc, _+_, _/_, _%_}
+use mathlib.Core.Path.{_≡_, refl}
+use mathlib.Core.Bool.{Bool, true, false, cond}
 use native.Mathlib.Omega.{arith}
-use borrow.Author.Tests.{lt-ltb, le-ltb, ltb-true, ltb-false, eq-eqb, ne-eqb, eqb-true}
-use lib.Dec.{eqb, ltb}
-use Rattle.frames.specs.declared.Frame.{Frame}
+use borrow.Author.Tests.{ltb-true, ltb-false}
+use lib.Dec.{ltb}
 use Rattle.settings.specs.declared.Versions.{Versions}
 use Rattle.readings.specs.declared.Readings.{Readings}
 use Rattle.cells.specs.declared.Cells.{Cells}

@@ -1,2 +1,4 @@
 pub mod InStep
 pub mod Laws
+pub mod TwosComplement
+pub mod WorkedRows

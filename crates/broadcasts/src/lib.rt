@@ -4,17 +4,7 @@ ghost use mathlib.Core.Path.{_≡_};
 ghost use Prim.Native.Nat.{_≤_};
 ghost use Rattle.cells.specs.Tables.{mostCells};
 ghost use Rattle.cells.specs.Bounds.{BoundedCells};
-ghost use Rattle.broadcasts.specs.Layouts.{
-  statusByte,
-  countByte,
-  indexByte,
-  psOf,
-  cvsOf,
-  ctsOf,
-  fwsOf,
-  ecOf,
-  broadcastsOf,
-};
+ghost use Rattle.broadcasts.specs.Layouts.{statusByte, countByte, indexByte, psOf, cvsOf, ctsOf, fwsOf, ecOf, broadcastsOf};
 use cells::Cells;
 use cells::figures;
 use frames::Frame;

@@ -1,30 +1,20 @@
 -- What the checks 14 and 15 give: the tables' lengths, each cell's range, and the bounds of their summaries. Assumes nothing.
-use Prim.Native.Nat.{ℕ, zero, suc, _+_, _*_, _≤_, _<_}
-use mathlib.Core.Path.{_≡_, refl, sym, _∙_, ap}
-use mathlib.Core.List.{List, [], _∷_, map}
-use mathlib.Core.Bool.{Bool, true, false, _&&_}
-use native.Mathlib.Nat.{le-of-suc-le-suc, not-suc-le-zero, mul-suc, mul-zero}
+use Prim.Native.Nat.{ℕ, suc, _*_, _≤_, _<_}
+use mathlib.Core.Path.{_≡_}
+use mathlib.Core.List.{List, [], _∷_}
+use mathlib.Core.Bool.{true, _&&_}
+use native.Mathlib.Nat.{not-suc-le-zero, mul-suc, mul-zero}
 use native.Mathlib.Omega.{arith}
 use borrow.Author.Tests.{leb-true, eqb-true}
 use lib.Dec.{leb, eqb}
 use lib.IntN.{ℤ, pos}
 use lib.ListN.{length, getD, length-map}
-use Rattle.cells.specs.declared.Cells.{Cells}
-use Rattle.cells.specs.Tables.{
-  mostCells,
-  tablesFit,
-  every,
-  voltageOk,
-  temperatureOk,
-  cellsInRange,
-  temperatureByte,
-  temperatureBytes,
-}
-use Rattle.cells.specs.Summaries.{sumOf, highestOf, lowestOf, indexFrom, summaryOf, cellsOf}
+use Rattle.cells.specs.Tables.{mostCells, tablesFit, every, voltageOk, temperatureOk, cellsInRange, temperatureByte, temperatureBytes}
+use Rattle.cells.specs.Summaries.{sumOf, highestOf, lowestOf, summaryOf, cellsOf}
 use Rattle.cells.specs.Bounds.{Bounded, BoundedCells}
 use Rattle.cells.proofs.Every.{and-left, and-right, every-at, at-map}
 use Rattle.cells.proofs.Temperatures.{sent}
-use Rattle.cells.proofs.Extremes.{In, First, highest-in, lowest-in, highest-first, lowest-first}
+use Rattle.cells.proofs.Extremes.{In, highest-in, lowest-in, highest-first, lowest-first}
 
 -- what 14 says where it is not given
 pub record Fit (v : List ℕ) (t : List ℤ) : Type 0 where

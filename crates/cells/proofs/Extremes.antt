@@ -1,7 +1,7 @@
 -- That the highest of the definitions is the highest, the lowest the lowest, the sum the sum, and each index the first, for a table of any
 -- length. Assumes nothing.
 use Prim.Native.Nat.{ℕ, zero, suc, _+_, _-_, _*_, _≤_, _<_}
-use mathlib.Core.Path.{_≡_, refl, sym, _∙_, ap}
+use mathlib.Core.Path.{_≡_, refl}
 use mathlib.Core.List.{List, [], _∷_, _++_}
 use mathlib.Core.Bool.{Bool, true, false, cond}
 use native.Mathlib.Nat.{le-of-suc-le-suc, not-suc-le-zero, mul-div-le, lt-mul-div-succ}

@@ -1,17 +1,16 @@
 -- One more cell in front of a table: what a turn of a walk from the end comes to. Assumes nothing.
-use Prim.Native.Nat.{ℕ, zero, suc, _+_, _≤_, _<_}
-use mathlib.Core.Path.{_≡_, refl, sym, _∙_, ap}
+use Prim.Native.Nat.{ℕ, suc, _+_, _<_}
+use mathlib.Core.Path.{_≡_, refl}
 use mathlib.Core.List.{List, [], _∷_}
 use mathlib.Core.Bool.{Bool, true, false, cond}
-use native.Mathlib.Numerals.{add-one}
 use native.Mathlib.Omega.{arith}
-use borrow.Author.Tests.{leb-true, leb-false, eq-eqb, le-leb}
-use lib.Dec.{leb, eqb}
+use borrow.Author.Tests.{leb-false, le-leb}
+use lib.Dec.{leb}
 use lib.ListN.{length, getD, drop, drop-of-length-le}
 use lib.Seq.{drop-cons}
 use Rattle.cells.specs.declared.Cell.{Cell}
 use Rattle.cells.specs.declared.Summary.{Summary}
-use Rattle.cells.specs.Summaries.{sumOf, highestOf, lowestOf, indexFrom, cellFrom, summaryFrom}
+use Rattle.cells.specs.Summaries.{sumOf, highestOf, lowestOf, cellFrom, summaryFrom}
 use Rattle.cells.specs.Walk.{higherOf, lowerOf, joinedOf}
 use Rattle.cells.proofs.Extremes.{index-here, index-after}
 

@@ -1,11 +1,11 @@
 -- Rows of 01, "Worked rows", marked P, that are about a table. Assumes nothing.
 use Prim.Native.Nat.{ℕ, zero, suc}
-use mathlib.Core.Path.{_≡_, refl, _∙_}
-use mathlib.Core.List.{List, [], _∷_}
+use mathlib.Core.Path.{_≡_, refl}
+use mathlib.Core.List.{[], _∷_}
 use native.Mathlib.Omega.{arith}
 use borrow.Author.Tests.{le-leb}
 use lib.ListN.{replicate}
-use Rattle.cells.specs.Summaries.{sumOf, highestOf, lowestOf, indexFrom, summaryOf, averageOf}
+use Rattle.cells.specs.Summaries.{sumOf, highestOf, lowestOf, summaryOf, averageOf}
 use Rattle.cells.specs.Groups.{voltageGroup}
 use Rattle.cells.proofs.Extremes.{index-here}
 

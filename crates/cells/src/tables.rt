@@ -2,17 +2,8 @@
 // sent of a temperature.
 ghost use mathlib.Core.Path.{_≡_};
 ghost use mathlib.Core.Bool.{true};
-ghost use lib.ListN.{length, getD};
-ghost use mathlib.Core.List.{map};
-ghost use Rattle.cells.specs.Tables.{
-  tablesFit,
-  every,
-  voltageOk,
-  temperatureOk,
-  cellsInRange,
-  temperatureByte,
-  temperatureBytes,
-};
+ghost use lib.ListN.{getD};
+ghost use Rattle.cells.specs.Tables.{tablesFit, every, voltageOk, temperatureOk, cellsInRange, temperatureByte, temperatureBytes};
 
 // The most cells that a table may hold.
 pub const MOST: usize = 255;

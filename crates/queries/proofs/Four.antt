@@ -1,12 +1,12 @@
 -- The list that the four places stand for, by how many are waiting: none, one, two, three, or all four. Assumes nothing.
-use Prim.Native.Nat.{ℕ, zero, suc, _+_, _-_, _≤_, _<_}
-use mathlib.Core.Path.{_≡_, refl, sym, _∙_, ap}
-use mathlib.Core.Bool.{Bool, true, false, cond, _&&_, _||_, or-false}
+use Prim.Native.Nat.{ℕ, zero, suc, _-_, _≤_, _<_}
+use mathlib.Core.Path.{_≡_, refl, _∙_, ap}
+use mathlib.Core.Bool.{true, false, cond, _&&_, _||_, or-false}
 use mathlib.Core.List.{List, [], _∷_, _++_}
 use native.Mathlib.Omega.{arith}
-use borrow.Author.Tests.{lt-ltb, le-ltb, le-leb, lt-leb}
+use borrow.Author.Tests.{lt-ltb, le-ltb, le-leb}
 use lib.Dec.{ltb, leb}
-use lib.ListN.{length, getD, take, drop}
+use lib.ListN.{length, take, drop}
 use lib.Seq.{take-nil}
 use Rattle.queries.specs.declared.Kind.{Kind}
 use Rattle.queries.specs.declared.Query.{Query}
@@ -100,5 +100,42 @@ module _ (a b c d : Query) where
   moved-is zero h q = absurd (omega arith)
   moved-is (suc n) h q = refl
 
-pub three-left : (n : ℕ) → n < 4 → (n ≡ 0 → ⊥) → (n ≡ 1 → ⊥) → (n ≡ 2 → ⊥) → n ≡ 3
+three-left : (n : ℕ) → n < 4 → (n ≡ 0 → ⊥) → (n ≡ 1 → ⊥) → (n ≡ 2 → ⊥) → n ≡ 3
 three-left n h a b c = omega arith
+
+-- the same of the places
+module _ (q r : Queries) where
+  pub left-places :
+      (m : ℕ)
+      → m ≡ cond (ltb (q .count) 4) (q .count) 4
+      → 0 < m
+      → r ≡ queriesOf (take (m - 1) (q .second ∷ q .third ∷ q .fourth ∷ q .fourth ∷ []))
+      → r ≡ queriesOf (drop 1 (waiting q))
+  unfolding waiting
+  left-places m e h p =
+      p ∙ ap queriesOf (left-is (q .first) (q .second) (q .third) (q .fourth) (q .count) m e h)
+
+  pub none-places :
+      (m : ℕ) → m ≡ cond (ltb (q .count) 4) (q .count) 4 → m ≤ 0 → r ≡ queriesOf [] → r ≡ queriesOf (drop 1 (waiting q))
+  unfolding waiting
+  none-places m e h p =
+      p ∙ ap queriesOf (none-left (q .first) (q .second) (q .third) (q .fourth) (q .count) m e h)
+
+  pub moved-places :
+      (x : Query)
+      → 0 < q .count
+      → r ≡ queriesOf (take (q .count) (x ∷ q .second ∷ q .third ∷ q .fourth ∷ []))
+      → r ≡ queriesOf (x ∷ drop 1 (waiting q))
+  unfolding waiting
+  moved-places x h p = p ∙ ap queriesOf (moved-is (q .first) (q .second) (q .third) (q .fourth) (q .count) h x)
+
+  pub added-places :
+      (x : Query)
+      → q .count < 4
+      → (q .count ≡ 0 → ⊥)
+      → (q .count ≡ 1 → ⊥)
+      → (q .count ≡ 2 → ⊥)
+      → r ≡ queriesOf (q .first ∷ q .second ∷ q .third ∷ x ∷ [])
+      → r ≡ queriesOf (waiting q ++ (x ∷ []))
+  unfolding waiting
+  added-places x h a b c p = p ∙ rw (three-left (q .count) h a b c)

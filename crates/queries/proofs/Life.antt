@@ -1,28 +1,18 @@
 -- A query's whole life at the front, while the tables stay as they are: it is sent each group of its table once, in order, a tick each, and
 -- then it is gone and those behind it wait as they did. Assumes nothing.
 use Prim.Native.Nat.{ℕ, zero, suc, _+_, _-_, _*_, _/_, _≤_, _<_}
-use mathlib.Core.Path.{_≡_, refl, sym, _∙_, ap}
-use mathlib.Core.Bool.{Bool, true, false, cond}
+use mathlib.Core.Path.{_≡_, ap}
+use mathlib.Core.Bool.{true, false}
 use mathlib.Core.List.{List, [], _∷_, _++_}
 use native.Mathlib.Omega.{arith}
 use borrow.Author.Tests.{le-leb, lt-leb}
 use lib.IntN.{ℤ}
-use lib.ListN.{length}
 use Rattle.frames.specs.declared.Frame.{Frame}
 use Rattle.queries.specs.declared.Kind.{Kind}
 use Rattle.queries.specs.declared.Kind.the-variants.{Voltages, Temperatures}
 use Rattle.queries.specs.declared.Query.{Query}
 use Rattle.queries.specs.Asking.{freshQuery}
-use Rattle.queries.specs.Answering.{
-  perGroup,
-  groupFrame,
-  cellCount,
-  pastEnd,
-  atLast,
-  nextGroup,
-  framesOf,
-  laterOf,
-}
+use Rattle.queries.specs.Answering.{perGroup, groupFrame, cellCount, pastEnd, atLast, nextGroup, framesOf, laterOf}
 
 module _ (own : ℕ) (v : List ℕ) (t : List ℤ) where
   -- who waits after so many ticks, and all that they sent

@@ -1,13 +1,13 @@
 -- What asking and answering come to, an outcome a law: each takes the tests that lead to it. Assumes nothing.
 use Prim.Native.Nat.{ℕ, _+_, _*_, _≤_, _<_}
 use mathlib.Core.Path.{_≡_, refl, sym, _∙_, ap}
-use mathlib.Core.Bool.{Bool, true, false, cond}
+use mathlib.Core.Bool.{true, false, cond}
 use mathlib.Core.List.{List, [], _∷_, _++_}
 use native.Mathlib.Omega.{arith}
 use borrow.Author.Tests.{le-leb, lt-leb}
-use lib.Dec.{leb, eqb}
+use lib.Dec.{leb}
 use lib.IntN.{ℤ}
-use lib.ListN.{length, take, drop}
+use lib.ListN.{length, drop}
 use Rattle.frames.specs.declared.Frame.{Frame}
 use Rattle.cells.specs.Tables.{mostCells, tablesFit}
 use Rattle.cells.proofs.Bounds.{fit}
@@ -15,21 +15,10 @@ use Rattle.queries.specs.declared.Kind.{Kind}
 use Rattle.queries.specs.declared.Kind.the-variants.{Voltages, Temperatures}
 use Rattle.queries.specs.declared.Query.{Query}
 use Rattle.queries.specs.declared.Queries.{Queries}
-use Rattle.queries.specs.declared.Asked.{Asked}
 use Rattle.queries.specs.declared.Answered.{Answered}
 use Rattle.queries.specs.Waiting.{waiting, queriesOf}
 use Rattle.queries.specs.Asking.{someAsks, askNumber, freshQuery, askedOf}
-use Rattle.queries.specs.Answering.{
-  perGroup,
-  groupFrame,
-  cellCount,
-  pastEnd,
-  atLast,
-  nextGroup,
-  framesOf,
-  laterOf,
-  Answers,
-}
+use Rattle.queries.specs.Answering.{perGroup, groupFrame, cellCount, pastEnd, atLast, nextGroup, framesOf, laterOf, Answers}
 use Rattle.queries.proofs.Four.{four-wait, oldest-first}
 
 -- how many wait, as the count says it

@@ -1,21 +1,17 @@
 -- Rows of 01, "Worked rows", marked P, that are about cell answers. Assumes nothing.
-use Prim.Native.Nat.{ℕ, _+_, _*_, _≤_, _<_}
-use mathlib.Core.Path.{_≡_, refl, sym, _∙_, ap}
-use mathlib.Core.Bool.{Bool, true, false}
+use Prim.Native.Nat.{ℕ, _+_, _*_}
+use mathlib.Core.Path.{_≡_, refl}
+use mathlib.Core.Bool.{true, false}
 use mathlib.Core.List.{List, [], _∷_}
 use native.Mathlib.Omega.{arith}
-use borrow.Author.Tests.{leb-true, leb-false, le-leb, lt-leb}
-use lib.Dec.{leb}
+use borrow.Author.Tests.{leb-true, leb-false}
 use lib.IntN.{ℤ}
 use lib.ListN.{length}
-use Rattle.messages.specs.declared.table.Row.{Row}
 use Rattle.messages.specs.Table.{toTarget}
-use Rattle.frames.specs.declared.Frame.{Frame}
 use Rattle.frames.specs.Frame.{frameOf}
-use Rattle.queries.specs.declared.Kind.{Kind}
 use Rattle.queries.specs.declared.Kind.the-variants.{Voltages, Temperatures}
 use Rattle.queries.specs.declared.Query.{Query}
-use Rattle.queries.specs.Answering.{perGroup, rowOf, groupBytes, groupFrame, pastEnd, atLast}
+use Rattle.queries.specs.Answering.{rowOf, groupBytes, groupFrame, pastEnd, atLast}
 
 -- cells 1 to 6, with 331 and 332 last: group PF 32 is 00 00 00 00 4C 01 4B 01, priority 7, to the source of the query
 pub group-32 :

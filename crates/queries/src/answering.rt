@@ -3,7 +3,6 @@
 ghost use mathlib.Core.Path.{_≡_};
 ghost use mathlib.Core.Bool.{true, false};
 ghost use Prim.Native.Nat.{_+_, _*_, _≤_, _<_};
-ghost use lib.ListN.{length};
 ghost use Rattle.cells.specs.Tables.{mostCells, tablesFit, every, temperatureOk};
 ghost use Rattle.queries.specs.Answering.{perGroup, rowAfter, rowOf, groupFrame, Answers};
 use crate::Answered;

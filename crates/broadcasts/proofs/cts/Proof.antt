@@ -23,7 +23,8 @@ cast-t8 : tie.Need-cast-t8
 cast-t8 c = search needs
 
 cast-t9 : tie.Need-cast-t9
-cast-t9 c = let a = c .before .before .before .before in
+cast-t9 c =
+    let a = c .before .before .before .before in
     let h = a .before .args .cells .heat in
     record {
       fits =
@@ -42,7 +43,8 @@ new-requires c κs = search needs
 
 returns : tie.Need-returns
 unfolding ctsOf
-returns c = let b = c .before .before .before in
+returns c =
+    let b = c .before .before .before in
     c .new .ensures
     ∙ rw (b .before .before .before .average .ensures, b .before .before .index-byte .ensures, b .index-byte2 .ensures)
 

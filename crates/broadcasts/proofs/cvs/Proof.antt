@@ -40,7 +40,8 @@ new-requires c κs = search needs
 
 returns : tie.Need-returns
 unfolding cvsOf
-returns c = let b = c .before .before in
+returns c =
+    let b = c .before .before in
     c .new .ensures ∙ rw (b .before .before .average .ensures, b .before .index-byte .ensures, b .index-byte2 .ensures)
 
 pub cvs-spec : {M : Type 1} → statement M

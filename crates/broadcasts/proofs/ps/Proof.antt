@@ -34,7 +34,8 @@ new-requires c κs = search needs
 
 returns : tie.Need-returns
 unfolding psOf
-returns c = let b = c .before .before in
+returns c =
+    let b = c .before .before in
     c .new .ensures ∙ rw (b .before .before .status-byte .ensures, b .before .count-byte .ensures, b .current-bits .ensures)
 
 pub ps-spec : {M : Type 1} → statement M

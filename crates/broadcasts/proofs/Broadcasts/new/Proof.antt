@@ -19,7 +19,8 @@ ec-requires : tie.Need-ec-requires
 ec-requires c κs = search needs
 
 returns : tie.Need-returns
-returns c = let b = c .before .before .before .before in
+returns c =
+    let b = c .before .before .before .before in
     rw (
       b .ps .ensures,
       c .before .before .before .cvs .ensures,

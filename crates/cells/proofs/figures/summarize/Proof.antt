@@ -5,13 +5,15 @@ use Rattle.cells.proofs.figures.summarize.Statement.{statement}
 use Rattle.cells.proofs.figures.summarize.Tie as tie
 
 voltages-requires : tie.Need-voltages-requires
-voltages-requires c κs = let v = c .before .args .v .now in
+voltages-requires c κs =
+    let v = c .before .args .v .now in
     let t = c .before .args .t .now in
     let f = fit v t (c .before .pre .0) in
     (f .some, f .most)
 
 temperatures-requires : tie.Need-temperatures-requires
-temperatures-requires c κs = let v = c .before .before .args .v .now in
+temperatures-requires c κs =
+    let v = c .before .before .args .v .now in
     let t = c .before .before .args .t .now in
     let f = fit v t (c .before .before .pre .0) in
     (omega (arith, f .same, f .some), omega (arith, f .same, f .most), temperatures-good v t (c .before .before .pre .1))

@@ -1,9 +1,9 @@
 -- `cells::figures::temperatures` meets its contract, by the same walk as `voltages`, over the bytes that are sent. Assumes nothing.
 use Rattle.cells.specs.Walk.{joinedOf}
-use Prim.Native.Nat.{ℕ, suc, _+_, _*_, _-_, _≤_, _<_}
-use mathlib.Core.Path.{_≡_, refl, sym, _∙_, ap}
+use Prim.Native.Nat.{suc, _+_, _*_, _-_, _≤_, _<_}
+use mathlib.Core.Path.{_≡_, sym, _∙_, ap}
 use native.Mathlib.Omega.{arith}
-use lib.ListN.{length, getD, drop, length-map}
+use lib.ListN.{length, drop, length-map}
 use Rattle.cells.specs.Tables.{temperatureByte, temperatureBytes}
 use Rattle.cells.specs.Summaries.{summaryFrom}
 use Rattle.cells.proofs.Extremes.{sum-one}
@@ -37,7 +37,8 @@ single-requires : tie.Need-single-requires Inv-loop μ-loop
 single-requires c κs = search needs
 
 loop-holds : tie.Need-loop-holds Inv-loop μ-loop
-loop-holds c = let t = c .before .before .args .t .now in
+loop-holds c =
+    let t = c .before .before .args .t .now in
     let e = c .single .ensures in
     let k = c .before .temperature-at .ensures in
     let x = c .before .temperature-at .result in (
@@ -67,7 +68,8 @@ loop-less c = search needs
 
 loop-again : tie.Need-loop-again Inv-loop μ-loop
 unfolding joinedOf
-loop-again c = let t = c .before .before .before .before .before .before .args .t .now in
+loop-again c =
+    let t = c .before .before .before .before .before .before .args .t .now in
     let l = c .before .before .before .loop in
     let e = c .joined .ensures in
     let k = c .before .temperature-at2 .ensures in
@@ -79,7 +81,8 @@ loop-again c = let t = c .before .before .before .before .before .before .args .
     )
 
 returns : tie.Need-returns Inv-loop μ-loop
-returns c = let z : c .before .loop .i ≡ 0 = omega arith in
+returns c =
+    let z : c .before .loop .i ≡ 0 = omega arith in
     rw z at (c .before .loop .inv .3)
 
 pub temperatures-spec : {M : Type 1} → statement M

@@ -1,8 +1,8 @@
 -- `cells::figures::voltages` meets its contract. The invariant: the summary is that of the cells from i on, and every cell passed leaves room
 -- in the sum for the rest. Assumes nothing.
 use Rattle.cells.specs.Walk.{joinedOf}
-use Prim.Native.Nat.{ℕ, suc, _+_, _*_, _-_, _≤_, _<_}
-use mathlib.Core.Path.{_≡_, refl, sym, _∙_, ap}
+use Prim.Native.Nat.{suc, _+_, _*_, _-_, _≤_, _<_}
+use mathlib.Core.Path.{_≡_, refl, _∙_, ap}
 use native.Mathlib.Omega.{arith}
 use lib.ListN.{length, getD, drop}
 use Rattle.cells.specs.Summaries.{summaryFrom}
@@ -37,7 +37,8 @@ single-requires : tie.Need-single-requires Inv-loop μ-loop
 single-requires c κs = search needs
 
 loop-holds : tie.Need-loop-holds Inv-loop μ-loop
-loop-holds c = let v = c .before .before .before .args .v .now in
+loop-holds c =
+    let v = c .before .before .before .args .v .now in
     let e = c .single .ensures in (
       search needs,
       omega (arith, ap (λ r. r .count) e),
@@ -66,7 +67,8 @@ loop-less c = search needs
 
 loop-again : tie.Need-loop-again Inv-loop μ-loop
 unfolding joinedOf
-loop-again c = let v = c .before .before .before .before .before .before .before .args .v .now in
+loop-again c =
+    let v = c .before .before .before .before .before .before .before .args .v .now in
     let l = c .before .before .before .loop in
     let e = c .joined .ensures in (
       search needs,
@@ -76,7 +78,8 @@ loop-again c = let v = c .before .before .before .before .before .before .before
     )
 
 returns : tie.Need-returns Inv-loop μ-loop
-returns c = let z : c .before .loop .i ≡ 0 = omega arith in
+returns c =
+    let z : c .before .loop .i ≡ 0 = omega arith in
     rw z at (c .before .loop .inv .3)
 
 pub voltages-spec : {M : Type 1} → statement M

@@ -55,7 +55,8 @@ temperature-at-requires-8 : tie.Need-temperature-at-requires-8
 temperature-at-requires-8 c κs = search needs
 
 returns : tie.Need-returns
-returns c = let first = c .before .before .before .before .before .before .before .before .args .group * 8 in
+returns c =
+    let first = c .before .before .before .before .before .before .before .before .args .group * 8 in
     let z : first + 0 ≡ first = omega arith in
     cc
 

@@ -55,7 +55,8 @@ cast-t24 : tie.Need-cast-t24
 cast-t24 c = search needs
 
 returns : tie.Need-returns
-returns c = let first = c .before .before .before .before .before .args .group * 4 in
+returns c =
+    let first = c .before .before .before .before .before .args .group * 4 in
     let z : first + 0 ≡ first = omega arith in
     cc
 

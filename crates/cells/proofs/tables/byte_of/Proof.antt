@@ -1,8 +1,7 @@
 -- `cells::tables::byte_of` meets its contract: the sum and the cast of a temperature in range. Assumes nothing.
-use Prim.Native.Nat.{ℕ, _<_}
 use mathlib.Core.Path.{ap, _∙_}
 use native.Mathlib.Omega.{arith}
-use lib.IntN.{pos, natAbs}
+use lib.IntN.{natAbs}
 use mir.Facts.{toZ-ofZ}
 use Rattle.cells.proofs.Temperatures.{sent}
 use Rattle.cells.proofs.tables.byte_of.Statement.{statement}

@@ -1,6 +1,6 @@
 -- `cells::tables::temperatures_ok` meets its contract. The invariant: the table is good where the cells passed are and the rest is.
 -- Assumes nothing.
-use Prim.Native.Nat.{ℕ, _≤_, _-_}
+use Prim.Native.Nat.{_≤_, _-_}
 use mathlib.Core.Path.{_≡_}
 use mathlib.Core.Bool.{_&&_}
 use lib.IntN.{pos}
@@ -38,13 +38,15 @@ loop-less : tie.Need-loop-less Inv-loop μ-loop
 loop-less c = search needs
 
 loop-again : tie.Need-loop-again Inv-loop μ-loop
-loop-again c = let l = c .before .before .before .loop in
+loop-again c =
+    let l = c .before .before .before .loop in
     let t = c .before .before .before .before .args .t .now in
     let told = rw (toZ-ofZ (record { sfits = c .before .temperature-ok-arg .given })) at (c .temperature-ok .ensures) in
     (search needs, rw told (every-again temperatureOk (pos 0) t (l .i) (l .ok) (search needs) (l .inv .1)))
 
 returns : tie.Need-returns Inv-loop μ-loop
-returns c = let l = c .before .loop in
+returns c =
+    let l = c .before .loop in
     every-end temperatureOk (pos 0) (c .before .before .args .t .now) (l .i) (l .ok) (search needs) (l .inv .1)
 
 pub temperatures-ok-spec : {M : Type 1} → statement M

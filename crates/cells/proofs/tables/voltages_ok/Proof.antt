@@ -1,6 +1,6 @@
 -- `cells::tables::voltages_ok` meets its contract. The invariant: the table is good where the cells passed are and the rest is.
 -- Assumes nothing.
-use Prim.Native.Nat.{ℕ, _≤_, _-_}
+use Prim.Native.Nat.{_≤_, _-_}
 use mathlib.Core.Path.{_≡_}
 use mathlib.Core.Bool.{_&&_}
 use lib.ListN.{length, drop}
@@ -32,11 +32,13 @@ loop-less : tie.Need-loop-less Inv-loop μ-loop
 loop-less c = search needs
 
 loop-again : tie.Need-loop-again Inv-loop μ-loop
-loop-again c = let l = c .before .before .loop in
+loop-again c =
+    let l = c .before .before .loop in
     (search needs, every-again voltageOk 0 (c .before .before .before .args .v .now) (l .i) (l .ok) (search needs) (l .inv .1))
 
 returns : tie.Need-returns Inv-loop μ-loop
-returns c = let l = c .before .loop in
+returns c =
+    let l = c .before .loop in
     every-end voltageOk 0 (c .before .before .args .v .now) (l .i) (l .ok) (search needs) (l .inv .1)
 
 pub voltages-ok-spec : {M : Type 1} → statement M

@@ -1,6 +1,6 @@
 -- `queries::places::Queries::added` meets its contract, by how many wait. Assumes nothing.
-use mathlib.Core.Path.{_≡_, _∙_}
-use Rattle.queries.proofs.Four.{three-left}
+use mathlib.Core.Path.{_∙_}
+use Rattle.queries.proofs.Four.{added-places}
 use Rattle.queries.specs.Waiting.{waiting}
 use borrow.Author.Needs.{needs}
 use Rattle.queries.proofs.Queries.added.Statement.{statement}
@@ -31,10 +31,10 @@ unfolding waiting
 returns-3 c = c .first-of3 .ensures ∙ rw (c .before .match .keys3)
 
 returns-4 : tie.Need-returns-4
-unfolding waiting
-returns-4 c = let r = c .before .match .rest in
-    let n = c .before .before .before .before .before .args .self .count in
-    c .first-of4 .ensures ∙ rw (three-left n (c .before .before .before .before .before .pre) (r .0 .0 .1) (r .0 .1) (r .1))
+returns-4 c =
+    let s = c .before .before .before .before .before in
+    let r = c .before .match .rest in
+    added-places _ _ _ (s .pre) (r .0 .0 .1) (r .0 .1) (r .1) (c .first-of4 .ensures)
 
 pub added-spec : {M : Type 1} → statement M
 added-spec =

@@ -14,7 +14,8 @@ silent-requires : tie.Need-silent-requires
 silent-requires c κs = search needs
 
 returns : tie.Need-returns
-returns c = let s = c .before .before .before .before .before .args in
+returns c =
+    let s = c .before .before .before .before .before .args in
     answers-none (s .self) (s .own) (s .v .now) (s .t .now) (c .before .before .if1 .taken) _ (c .silent .ensures .0 ∙ c .before .none .ensures)
     (c .silent .ensures .1)
 
@@ -31,7 +32,8 @@ silent-requires-2 : tie.Need-silent-requires-2
 silent-requires-2 c κs = search needs
 
 returns-2 : tie.Need-returns-2
-returns-2 c = let e = c .before .before .before .before .before .before in
+returns-2 c =
+    let e = c .before .before .before .before .before .before in
     let s = e .before .before .before .args in
     let f = e .before .before .before .pre .0 in
     let b = c .before .before .before .cells-before in
@@ -42,7 +44,8 @@ returns-2 c = let e = c .before .before .before .before .before .before in
     (c .silent2 .ensures .1)
 
 group-frame-requires : tie.Need-group-frame-requires
-group-frame-requires c κs = let b = c .before in
+group-frame-requires c κs =
+    let b = c .before in
     let s = b .before .before .before .before .before .before in
     let v = s .args .v .now in
     let t = s .args .t .now in
@@ -58,7 +61,8 @@ left-requires-2 : tie.Need-left-requires-2
 left-requires-2 c κs = search needs
 
 returns-3 : tie.Need-returns-3
-returns-3 c = let g = c .before .before .before in
+returns-3 c =
+    let g = c .before .before .before in
     let e = g .before .before .before .before .before in
     let s = e .before .before .before .args in
     let f = e .before .before .before .pre .0 in
@@ -71,7 +75,8 @@ returns-3 c = let g = c .before .before .before in
     (c .left2 .ensures)
 
 moved-requires : tie.Need-moved-requires
-moved-requires c κs = let e = c .before .before .before .before .before .before .before in
+moved-requires c κs =
+    let e = c .before .before .before .before .before .before .before in
     let s = e .before .before .before in
     let v = s .args .v .now in
     let t = s .args .t .now in (
@@ -80,7 +85,8 @@ moved-requires c κs = let e = c .before .before .before .before .before .before
     )
 
 returns-4 : tie.Need-returns-4
-returns-4 c = let g = c .before .before .before in
+returns-4 c =
+    let g = c .before .before .before in
     let e = g .before .before .before .before .before in
     let s = e .before .before .before .args in
     let f = e .before .before .before .pre .0 in

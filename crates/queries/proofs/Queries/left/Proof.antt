@@ -1,7 +1,5 @@
 -- `queries::places::Queries::left` meets its contract. Assumes nothing.
-use mathlib.Core.Path.{_∙_, ap}
-use Rattle.queries.specs.Waiting.{waiting, queriesOf}
-use Rattle.queries.proofs.Four.{left-is, none-left}
+use Rattle.queries.proofs.Four.{left-places, none-places}
 use borrow.Author.Needs.{needs}
 use Rattle.queries.proofs.Queries.left.Statement.{statement}
 use Rattle.queries.proofs.Queries.left.Tie as tie
@@ -19,18 +17,14 @@ none-requires : tie.Need-none-requires
 none-requires c κs = search needs
 
 returns : tie.Need-returns
-unfolding waiting
-returns c = let s = c .before .before .before .before .args .self in
+returns c =
     let m = c .before .before .before .at-most in
-    c .first-of .ensures
-    ∙ ap queriesOf (left-is (s .first) (s .second) (s .third) (s .fourth) (s .count) (m .result) (m .ensures) (c .before .if1 .taken))
+    left-places _ _ (m .result) (m .ensures) (c .before .if1 .taken) (c .first-of .ensures)
 
 returns-2 : tie.Need-returns-2
-unfolding waiting
-returns-2 c = let s = c .before .before .before .before .args .self in
+returns-2 c =
     let m = c .before .before .before .at-most in
-    c .none .ensures
-    ∙ ap queriesOf (none-left (s .first) (s .second) (s .third) (s .fourth) (s .count) (m .result) (m .ensures) (c .before .if1 .left))
+    none-places _ _ (m .result) (m .ensures) (c .before .if1 .left) (c .none .ensures)
 
 pub left-spec : {M : Type 1} → statement M
 left-spec =

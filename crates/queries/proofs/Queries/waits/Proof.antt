@@ -19,7 +19,8 @@ same-asked-requires-4 c κs = search needs
 
 returns : tie.Need-returns
 unfolding waiting
-returns c = let s = c .before .before .before .before .args in
+returns c =
+    let s = c .before .before .before .before .args in
     let q = s .self in
     rw (
       c .before .before .before .same-asked .ensures,

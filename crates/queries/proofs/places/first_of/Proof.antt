@@ -20,7 +20,8 @@ place-requires-4 : tie.Need-place-requires-4
 place-requires-4 c κs = search needs
 
 returns : tie.Need-returns
-returns c = let s = c .before .before .before .before .before .args in
+returns c =
+    let s = c .before .before .before .before .before .args in
     rw (
       c .before .before .before .before .at-most .ensures,
       c .before .before .before .place .ensures,
