@@ -1,1 +1,2 @@
 pub mod Literal
+pub mod Folds
