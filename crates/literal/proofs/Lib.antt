@@ -1,2 +1,4 @@
 pub mod Fold
 pub mod Turns
+pub mod Outcomes
+pub mod InStep

@@ -103,7 +103,7 @@ abbrev foldTurned : Turned → Turned
 foldTurned (turned.On p) = turned.On (foldPhase p)
 foldTurned (turned.Stop cause) = turned.Stop cause
 
-both : {A B : Type 0} (f : A → B) (t : Bool) {x y : A} {x' y' : B} → f x ≡ x' → f y ≡ y' → f (cond t x y) ≡ cond t x' y'
+pub both : {A B : Type 0} (f : A → B) (t : Bool) {x y : A} {x' y' : B} → f x ≡ x' → f y ≡ y' → f (cond t x y) ≡ cond t x' y'
 both f true h k = h
 both f false h k = k
 
