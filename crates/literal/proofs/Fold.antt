@@ -28,10 +28,10 @@ folded-step back p n f h true e =
     record { turns = h .turns + 1; sum = omega (arith, leb-true (back + p) f e); low = omega arith; passed = inr (omega arith) }
 folded-step back p n f h false e =
     record {
-        turns = h .turns;
-        sum = omega arith;
-        low = omega (arith, leb-false (back + p) f e);
-        passed = ⊎-elim (λ z. inl z) (λ z. inr (omega arith)) (h .passed)
+      turns = h .turns;
+      sum = omega arith;
+      low = omega (arith, leb-false (back + p) f e);
+      passed = ⊎-elim (λ z. inl z) (λ z. inr (omega arith)) (h .passed);
     }
 
 pub folded : (back p n : ℕ) → Folded back p n (fold (back + p) back n)

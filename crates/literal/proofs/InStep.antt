@@ -1,6 +1,5 @@
 -- The session with the paper's counts and the code's run in step, from every session value. Assumes nothing.
 use mathlib.Core.Path.{_≡_, refl, ap, _∙_}
-use mathlib.Core.List.{List}
 use Prim.Native.Nat.{ℕ}
 use Rattle.settings.specs.declared.Settings.{Settings}
 use Rattle.readings.specs.declared.Readings.{Readings}
@@ -14,8 +13,8 @@ use Rattle.session.specs.Frames.{framesOf}
 use Rattle.session.specs.Tick.{turnIn, turnedBy, advanceOf, tickOf, sentOf}
 use Rattle.literal.specs.Literal.{literalTick}
 use Rattle.literal.specs.Folds.{fold, foldState, foldCount, folds}
-use Rattle.literal.proofs.Turns.{advance-folds, turn-in, turned-folds, frames-of, foldTurn}
-use Rattle.literal.proofs.Outcomes.{foldTaken, message-folds}
+use Rattle.literal.proofs.Turns.{advance-folds, turn-in, turned-folds, frames-of}
+use Rattle.literal.proofs.Outcomes.{message-folds}
 
 -- no session is its own fold
 pub start-in-step : folds idleSession ≡ idleSession

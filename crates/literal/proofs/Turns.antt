@@ -1,10 +1,10 @@
 -- The state change of a tick, its frames and the counts after it, for a session and for its fold. Assumes nothing.
-use mathlib.Core.Path.{_≡_, refl, ap, sym, _∙_}
+use mathlib.Core.Path.{_≡_, refl, ap, _∙_}
 use mathlib.Core.Bool.{Bool, true, false, cond}
 use mathlib.Core.List.{List, [], _∷_}
-use Prim.Native.Nat.{ℕ, _+_, _/_, _%_}
+use Prim.Native.Nat.{ℕ, _+_, _/_}
 use native.Mathlib.Omega.{arith}
-use lib.Dec.{leb, ltb, eqb}
+use lib.Dec.{leb, ltb}
 use Rattle.frames.specs.declared.Frame.{Frame}
 use Rattle.settings.specs.declared.Settings.{Settings}
 use Rattle.readings.specs.declared.Readings.{Readings}
@@ -13,19 +13,18 @@ use Rattle.cells.specs.declared.Cells.{Cells}
 use Rattle.phases.specs.declared.Phase.{Phase}
 use Rattle.phases.specs.declared.Phase.the-variants.{Drive, Rest, Hold}
 use Rattle.phases.specs.declared.Cause.{Cause}
-use Rattle.phases.specs.declared.Cause.the-variants.{PackVoltage, HoldCell, Other}
+use Rattle.phases.specs.declared.Cause.the-variants.{PackVoltage, Other}
 use Rattle.phases.specs.declared.Turned.{Turned}
 use Rattle.phases.specs.declared.Turned.the-variants as turned
-use Rattle.phases.specs.Phases.{nextCount, agedOf, driveRules, holdRules, afterRest, turnedOf}
+use Rattle.phases.specs.Phases.{agedOf, driveRules, holdRules, afterRest, turnedOf}
 use Rattle.states.specs.declared.Est.{Est}
 use Rattle.states.specs.declared.State.{State}
 use Rattle.states.specs.declared.State.the-variants.{Idle, Offered, Unverified, Parameters, Ready, Charging, Stopping, Error}
 use Rattle.turns.specs.declared.Turn.{Turn}
 use Rattle.turns.specs.declared.Turn.the-variants.{On, Enter, Farewell, End}
 use Rattle.turns.specs.Turns.{turnOf, waitingOf, chargingOf, stopsOf, stopOf, phaseTurn, phaseOn, cellFull, packFull, stoppingOf, estThen, errorOf}
-use Rattle.layouts.specs.Layouts.{eimOf, evmOf, ecpOf, ermOf, ecrOf, ecsOf, esmOf, edmOf, eemOf}
+use Rattle.layouts.specs.Layouts.{eimOf, evmOf, ermOf, ecrOf, ecsOf, esmOf, edmOf, eemOf}
 use Rattle.session.specs.declared.Session.{Session}
-use Rattle.session.specs.Message.{idleSession}
 use Rattle.session.specs.Frames.{isFifth, each5, parametersFrames, chargingFrames, stoppingFrames, framesIn, framesOf}
 use Rattle.session.specs.Tick.{turnIn, turnedBy, silenceOf, waitedOf, endedOf, advanceIn, advanceOf}
 use Rattle.literal.specs.Literal.{older, grown, counted, literalIn, literalAdvance}
@@ -171,72 +170,68 @@ module _ (x : Settings) (r : Readings) (c : Cells) where
   turn-folds Error n b = rw (fold-leb 600 600 4 n (omega arith)) (both foldTurn (leb 600 n) refl refl)
 
 -- ---- the session after the state change
--- a turn of a state that goes on leaves the count in the same cycle
-abbrev Steps : State → Turn → Type 0
-Steps st t = (a b n : ℕ) → folds (turnedBy (mk a b n st) t) ≡ turnedBy (folds (mk a b n st)) (foldTurn t)
+-- a state that goes on leaves the count in the same cycle; one that begins has count 0, which is its own fold
+record Steps (st : State) (t : Turn) : Type 0 where
+  steps : (a b n : ℕ) → folds (turnedBy (mk a b n st) t) ≡ turnedBy (folds (mk a b n st)) (foldTurn t)
 
-either : (P : Turn → Type 0) (t : Bool) {u v : Turn} → P u → P v → P (cond t u v)
-either P true h k = h
-either P false h k = k
+either : {st : State} (t : Bool) {u v : Turn} → Steps st u → Steps st v → Steps st (cond t u v)
+either true h k = h
+either false h k = k
+
+error : {st : State} → Steps st (Enter Error)
+unfolding folds turnedBy foldCount foldState fold
+error = record { steps = λ a b n. refl }
+
+farewell : {st : State} → Steps st Farewell
+unfolding folds turnedBy foldCount foldState fold
+farewell = record { steps = λ a b n. refl }
+
+ends : {st : State} → Steps st End
+unfolding folds turnedBy foldCount foldState fold
+ends = record { steps = λ a b n. refl }
+
+on : (st : State) → Steps st (On st)
+unfolding folds turnedBy
+on st = record { steps = λ a b n. refl }
+
+stays : (k : Bool) (est later : Est) → Steps (Stopping k est) (On (Stopping k later))
+unfolding folds turnedBy foldCount foldState
+stays k est later = record { steps = λ a b n. refl }
 
 module _ (x : Settings) (r : Readings) (c : Cells) where
-  error-steps : (st : State) → Steps st (Enter Error)
-  unfolding folds turnedBy foldCount foldState fold
-  error-steps st a b n = refl
-
-  stop-steps : (st : State) (cause : Cause) → Steps st (stopOf x r c cause)
+  stop : {st : State} (cause : Cause) → Steps st (stopOf x r c cause)
   unfolding folds turnedBy stopOf foldCount foldState fold
-  stop-steps st cause a b n = refl
+  stop cause = record { steps = λ a b n. refl }
 
-  farewell-steps : (st : State) → Steps st Farewell
-  unfolding folds turnedBy foldCount foldState fold
-  farewell-steps st a b n = refl
-
-  end-steps : (st : State) → Steps st End
-  unfolding folds turnedBy foldCount foldState fold
-  end-steps st a b n = refl
-
-  on-steps : (st : State) → Steps st (On st)
-  unfolding folds turnedBy
-  on-steps st a b n = refl
-
-  phase-steps : (p : Phase) (t : Turned) → Steps (Charging p) (phaseOn x r c t)
+  by-phase : (p : Phase) (t : Turned) → Steps (Charging p) (phaseOn x r c t)
   unfolding phaseOn folds turnedBy foldCount foldState
-  phase-steps p (turned.On q) a b n = refl
-  phase-steps p (turned.Stop cause) a b n = stop-steps (Charging p) cause a b n
+  by-phase p (turned.On q) = record { steps = λ a b n. refl }
+  by-phase p (turned.Stop cause) = stop cause
 
   waiting-steps : (st : State) (b : ℕ) → Steps st (waitingOf r b st)
   unfolding waitingOf
-  waiting-steps st b =
-      either (Steps st) (leb 200 b) (error-steps st) (either (Steps st) (wantedOf r) (on-steps st) (farewell-steps st))
-
-  stops-steps : (p : Phase) → Steps (Charging p) (stopsOf x r c p)
-  unfolding stopsOf phaseTurn
-  stops-steps p =
-      either (Steps (Charging p)) (aboveOf (r .current) (x .current)) (stop-steps (Charging p) Other)
-      (either (Steps (Charging p)) (packFull x r) (stop-steps (Charging p) PackVoltage) (phase-steps p (turnedOf p (cellFull x c))))
+  waiting-steps st b = either (leb 200 b) error (either (wantedOf r) (on st) farewell)
 
   charging-steps : (p : Phase) (b : ℕ) → Steps (Charging p) (chargingOf x r c b p)
-  unfolding chargingOf
+  unfolding chargingOf stopsOf phaseTurn
   charging-steps p b =
-      either (Steps (Charging p)) (leb 200 b) (error-steps (Charging p))
-      (either (Steps (Charging p)) (wantedOf r) (stops-steps p) (stop-steps (Charging p) Other))
-
-  stopping-steps : (k : Bool) (est later : Est) → Steps (Stopping k est) (On (Stopping k later))
-  unfolding folds turnedBy foldCount foldState
-  stopping-steps k est later a b n = refl
+      either (leb 200 b) error
+      (either (wantedOf r)
+      (either (aboveOf (r .current) (x .current)) (stop Other)
+      (either (packFull x r) (stop PackVoltage) (by-phase p (turnedOf p (cellFull x c)))))
+      (stop Other))
 
   turn-steps : (st : State) (n b : ℕ) → Steps st (turnOf x r c st n b)
   unfolding turnOf stoppingOf errorOf
-  turn-steps Idle n b = on-steps Idle
+  turn-steps Idle n b = on Idle
   turn-steps Offered n b = waiting-steps Offered b
   turn-steps Unverified n b = waiting-steps Unverified b
   turn-steps Parameters n b = waiting-steps Parameters b
   turn-steps (Ready accepted most) n b = waiting-steps (Ready accepted most) b
   turn-steps (Charging p) n b = charging-steps p b
   turn-steps (Stopping acknowledged est) n b =
-      either (Steps (Stopping acknowledged est)) (leb 600 n) (end-steps (Stopping acknowledged est)) (stopping-steps acknowledged est (estThen x r c est))
-  turn-steps Error n b = either (Steps Error) (leb 600 n) (end-steps Error) (on-steps Error)
+      either (leb 600 n) ends (stays acknowledged est (estThen x r c est))
+  turn-steps Error n b = either (leb 600 n) ends (on Error)
 
   pub turn-in : (s : Session) → foldTurn (turnIn x r c s) ≡ turnIn x r c (folds s)
   unfolding turnIn folds
@@ -245,7 +240,7 @@ module _ (x : Settings) (r : Readings) (c : Cells) where
   pub turned-folds : (s : Session) → folds (turnedBy s (turnIn x r c s)) ≡ turnedBy (folds s) (turnIn x r c (folds s))
   unfolding turnIn
   turned-folds s =
-      turn-steps (s .state) (s .count) (s .silence) (s .station) (s .silence) (s .count)
+      turn-steps (s .state) (s .count) (s .silence) .steps (s .station) (s .silence) (s .count)
       ∙ ap (turnedBy (folds s)) (turn-in s)
 
   pub frames-of : (a : ℕ) (t : Turn) (s : Session) → framesOf x r c a t s ≡ framesOf x r c a (foldTurn t) (folds s)

@@ -43,8 +43,8 @@ foldCount Error n = fold 604 600 n
 unfoldable pub folds : Session → Session
 folds s =
     record {
-        station = s .station;
-        silence = fold 200 200 (s .silence);
-        count = foldCount (s .state) (s .count);
-        state = foldState (s .state)
+      station = s .station;
+      silence = fold 200 200 (s .silence);
+      count = foldCount (s .state) (s .count);
+      state = foldState (s .state);
     }
