@@ -1,4 +1,4 @@
--- In the code's session no count is ever large, so none can overflow, in any run from no session. Assumes nothing.
+-- In the code's session no count is ever large, so none can overflow, in any run from Idle. Assumes nothing.
 use mathlib.Core.List.{List, [], _∷_}
 use native.Mathlib.Omega.{arith}
 use Rattle.settings.specs.declared.Settings.{Settings}

@@ -16,7 +16,7 @@ use Rattle.literal.specs.Folds.{fold, foldState, foldCount, folds}
 use Rattle.literal.proofs.Turns.{advance-folds, turn-in, turned-folds, frames-of}
 use Rattle.literal.proofs.Outcomes.{message-folds}
 
--- no session is its own fold
+-- the session of Idle is its own fold
 pub start-in-step : folds idleSession ≡ idleSession
 unfolding folds foldState foldCount fold
 start-in-step = refl

@@ -1,4 +1,4 @@
--- Every run from no session shows the same with the paper's counts and with the code's. Assumes nothing.
+-- Every run from Idle shows the same with the paper's counts and with the code's. Assumes nothing.
 use mathlib.Core.Path.{_≡_, refl, ap, _∙_}
 use mathlib.Core.List.{List, [], _∷_}
 use Rattle.settings.specs.declared.Settings.{Settings}

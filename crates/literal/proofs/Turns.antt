@@ -16,7 +16,7 @@ use Rattle.phases.specs.declared.Cause.{Cause}
 use Rattle.phases.specs.declared.Cause.the-variants.{PackVoltage, Other}
 use Rattle.phases.specs.declared.Turned.{Turned}
 use Rattle.phases.specs.declared.Turned.the-variants as turned
-use Rattle.phases.specs.Phases.{agedOf, driveRules, holdRules, afterRest, turnedOf}
+use Rattle.phases.specs.Phases.{nextCount, agedOf, driveRules, holdRules, afterRest, turnedOf}
 use Rattle.states.specs.declared.Est.{Est}
 use Rattle.states.specs.declared.State.{State}
 use Rattle.states.specs.declared.State.the-variants.{Idle, Offered, Unverified, Parameters, Ready, Charging, Stopping, Error}
@@ -41,16 +41,23 @@ older-folds (Hold time) = rw (fold-next 18000 18000 time)
 abbrev mk : ℕ → ℕ → ℕ → State → Session
 mk station silence count st = record { station = station; silence = silence; count = count; state = st }
 
+waited-folds : (a b n top back : ℕ) (st : State) →
+    mk a (fold 200 200 (b + 1)) (fold top back (n + 1)) st ≡ mk a (nextCount 200 200 (fold 200 200 b)) (nextCount top back (fold top back n)) st
+waited-folds a b n top back st = rw (fold-next 200 200 b, fold-next top back n)
+
+counted-folds : (a b n : ℕ) (st : State) → mk a b (fold 604 600 (n + 1)) st ≡ mk a b (nextCount 604 600 (fold 604 600 n)) st
+counted-folds a b n st = rw (fold-next 604 600 n)
+
 advance-in : (a b n : ℕ) (st : State) → folds (literalIn (mk a b n st) st) ≡ advanceIn (folds (mk a b n st)) (foldState st)
 unfolding folds foldState foldCount literalIn grown counted advanceIn waitedOf endedOf silenceOf
 advance-in a b n Idle = refl
-advance-in a b n Offered = rw (fold-next 200 200 b, fold-next 5 1 n)
-advance-in a b n Unverified = rw (fold-next 200 200 b, fold-next 5 1 n)
-advance-in a b n Parameters = rw (fold-next 200 200 b, fold-next 15 6 n)
-advance-in a b n (Ready accepted most) = rw (fold-next 200 200 b, fold-next 5 1 n)
-advance-in a b n (Charging p) = rw (fold-next 200 200 b, fold-next 5 1 n, older-folds p)
-advance-in a b n (Stopping acknowledged est) = rw (fold-next 604 600 n)
-advance-in a b n Error = rw (fold-next 604 600 n)
+advance-in a b n Offered = waited-folds a b n 5 1 Offered
+advance-in a b n Unverified = waited-folds a b n 5 1 Unverified
+advance-in a b n Parameters = waited-folds a b n 15 6 Parameters
+advance-in a b n (Ready accepted most) = waited-folds a b n 5 1 (Ready accepted most)
+advance-in a b n (Charging p) = rw (older-folds p) (waited-folds a b n 5 1 (Charging (agedOf (foldPhase p))))
+advance-in a b n (Stopping acknowledged est) = counted-folds a (fold 200 200 b) n (Stopping acknowledged est)
+advance-in a b n Error = counted-folds a (fold 200 200 b) n Error
 
 pub advance-folds : (s : Session) → folds (literalAdvance s) ≡ advanceOf (folds s)
 unfolding folds literalAdvance advanceOf
