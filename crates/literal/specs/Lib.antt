@@ -1,1 +1,4 @@
 pub mod Literal
+pub mod Folds
+pub mod Runs
+pub mod Small

@@ -1,9 +1,7 @@
 -- A tick of the session with its counts as the paper has them (01, "Session by message": "each state has a count, 0 at its first tick";
 -- "Session by tick": "silence grows by one at each such tick"): every count is one more after each tick, however long a state lasts. Messages
 -- and frames are those of the code's session: they read the counts and do not move them on.
-use Prim.Native.Nat.{ℕ, _+_}
-use mathlib.Core.List.{List}
-use Rattle.frames.specs.declared.Frame.{Frame}
+use Prim.Native.Nat.{_+_}
 use Rattle.settings.specs.declared.Settings.{Settings}
 use Rattle.readings.specs.declared.Readings.{Readings}
 use Rattle.cells.specs.declared.Cells.{Cells}
