@@ -41,12 +41,15 @@ module _ (source a b c d : ℕ) where
   listed-is (suc (suc zero)) = simp (or-not, or-false)
   listed-is (suc (suc (suc zero))) = simp (or-not, or-false)
   listed-is (suc (suc (suc (suc n)))) =
-      simp
-      (lt-ltb 0 (suc (suc (suc (suc n)))) (omega arith),
-      lt-ltb 1 (suc (suc (suc (suc n)))) (omega arith),
-      lt-ltb 2 (suc (suc (suc (suc n)))) (omega arith),
-      lt-ltb 3 (suc (suc (suc (suc n)))) (omega arith),
-      or-not, or-false, take-nil {A = ℕ} n)
+      simp (
+        lt-ltb 0 (suc (suc (suc (suc n)))) (omega arith),
+        lt-ltb 1 (suc (suc (suc (suc n)))) (omega arith),
+        lt-ltb 2 (suc (suc (suc (suc n)))) (omega arith),
+        lt-ltb 3 (suc (suc (suc (suc n)))) (omega arith),
+        or-not,
+        or-false,
+        take-nil {A = ℕ} n,
+      )
 
   pub here-is : (n : ℕ)
       → ((ltb 0 n && eqb source a)

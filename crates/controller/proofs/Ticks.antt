@@ -28,11 +28,12 @@ first-of-three zero a b c = refl
 first-of-three (suc zero) a b c = refl
 first-of-three (suc (suc zero)) a b c = refl
 first-of-three (suc (suc (suc n))) a b c =
-    simp
-    (lt-ltb 0 (suc (suc (suc n))) (omega arith),
-    lt-ltb 1 (suc (suc (suc n))) (omega arith),
-    lt-ltb 2 (suc (suc (suc n))) (omega arith),
-    take-nil {A = Frame} n)
+    simp (
+      lt-ltb 0 (suc (suc (suc n))) (omega arith),
+      lt-ltb 1 (suc (suc (suc n))) (omega arith),
+      lt-ltb 2 (suc (suc (suc n))) (omega arith),
+      take-nil {A = Frame} n,
+    )
 
 -- a tick that no number refuses has tables that fit, readings and cells in range, and room for nine frames
 pub record Fine (r : Readings) (v : List ℕ) (t : List ℤ) (room : ℕ) : Type 0 where

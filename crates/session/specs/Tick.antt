@@ -1,6 +1,6 @@
 -- What a tick makes of a session (01, "Session by tick"): the state change, the frames of the resulting state, then the counts. The counts
--- here are the code's, which go back where no test of the paper can tell; Literal.antt has them as the paper does, growing for
--- ever, and `tick-in-step` (proofs/InStep.antt) says that the two give the same states and frames.
+-- here are the code's, which go back where no test of the paper can tell; the crate `literal` has them as the paper does, growing for
+-- ever, and its `runs-in-step` says that the two give the same numbers and frames and enter the same states.
 use Prim.Native.Nat.{ℕ, _+_}
 use mathlib.Core.Bool.{cond}
 use mathlib.Core.List.{List}

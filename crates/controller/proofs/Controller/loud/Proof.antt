@@ -23,8 +23,10 @@ same-length c = search needs
 
 returns : tie.Need-returns
 unfolding chargeFrames broadcastFrames
-returns c = (rw (c .before .before .before .before .before .before .before .before .before .before .before .summarize .ensures) at (c .before .before .before .before .before .before .before .before .before .tick .ensures .0),
-    sent-eq (sent-then (c .before .before .before .before .before .before .charge .ensures) (c .before .before .broadcast .ensures)) (rw (c .before .before .before .before .before .before .before .before .before .tick .ensures .1, c .before .before .before .before .before .before .before .before .before .before .before .summarize .ensures)))
+returns c = (
+  rw (c .before .before .before .before .before .before .before .before .before .before .before .summarize .ensures) at (c .before .before .before .before .before .before .before .before .before .tick .ensures .0),
+  sent-eq (sent-then (c .before .before .before .before .before .before .charge .ensures) (c .before .before .broadcast .ensures)) (rw (c .before .before .before .before .before .before .before .before .before .tick .ensures .1, c .before .before .before .before .before .before .before .before .before .before .before .summarize .ensures)),
+)
 
 pub loud-spec : {M : Type 1} → statement M
 loud-spec =

@@ -21,14 +21,16 @@ unfolding chargeFrames broadcastFrames
 returns c = let a = c .before .before .before .before .before .args in
     let x = a .self .settings in
     let k = cellsOf (now (a .v)) (now (a .t)) in
-    let q = sym (c .before .before .quiet .ensures) ∙ c .before .if1 .taken in
-    (quiet-tick x (a .r) k (a .self .session) (a .self .beat .tick) q,
-    sent-most
-    (sent-eq (sent-none (now (a .buf)) 0 (omega arith))
-    (rw
-    (← quiet-sent x (a .r) k (a .self .session) (a .self .beat .tick) q,
-    ← quiet-broadcast x (a .r) k (a .self .session) (a .self .beat .tick) q (x .own) (x .versions))))
-    8 (omega arith))
+    let q = sym (c .before .before .quiet .ensures) ∙ c .before .if1 .taken in (
+      quiet-tick x (a .r) k (a .self .session) (a .self .beat .tick) q,
+      sent-most
+          (sent-eq (sent-none (now (a .buf)) 0 (omega arith))
+          (rw (
+            ← quiet-sent x (a .r) k (a .self .session) (a .self .beat .tick) q,
+            ← quiet-broadcast x (a .r) k (a .self .session) (a .self .beat .tick) q (x .own) (x .versions),
+          )))
+          8 (omega arith),
+    )
 
 same-length : tie.Need-same-length
 same-length c = search needs
