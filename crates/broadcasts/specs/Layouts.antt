@@ -11,20 +11,13 @@ use Rattle.settings.specs.declared.Versions.{Versions}
 use Rattle.readings.specs.declared.Readings.{Readings}
 use Rattle.readings.specs.Readings.{bitsOf}
 use Rattle.cells.specs.declared.Cells.{Cells}
+use Rattle.cells.specs.Sent.{countByte, indexByte}
 use Rattle.cells.specs.Summaries.{averageOf}
 use Rattle.broadcasts.specs.declared.Broadcasts.{Broadcasts}
 
 -- status one with 80 hex, or with it clear (status byte one is 0 to 127, so the rest of it is all of it)
 abbrev pub statusByte : Bool → ℕ → ℕ
 statusByte heartbeat one = cond heartbeat (one % 0x80 + 0x80) (one % 0x80)
-
--- how many cells there are, as PS says it
-abbrev pub countByte : ℕ → ℕ
-countByte count = count
-
--- a cell's index, as CVS and CTS say it
-abbrev pub indexByte : ℕ → ℕ
-indexByte index = index
 
 -- a broadcast's PS stands in its row, so no target is named
 abbrev pub broadcast : Row → ℕ → List ℕ → Frame

@@ -1,12 +1,11 @@
 // The five broadcasts as values, and the beat that says when they are sent and whether the heartbeat is on (01, "Broadcasts and cell
 // answers"). This crate may not know sessions, queries, or the buffer that the frames go into.
 ghost use mathlib.Core.Path.{_≡_};
-ghost use Prim.Native.Nat.{_≤_};
-ghost use Rattle.cells.specs.Tables.{mostCells};
 ghost use Rattle.cells.specs.Bounds.{BoundedCells};
-ghost use Rattle.broadcasts.specs.Layouts.{statusByte, countByte, indexByte, psOf, cvsOf, ctsOf, fwsOf, ecOf, broadcastsOf};
+ghost use Rattle.broadcasts.specs.Layouts.{statusByte, psOf, cvsOf, ctsOf, fwsOf, ecOf, broadcastsOf};
 use cells::Cells;
 use cells::figures;
+use cells::sent;
 use frames::Frame;
 use messages::table;
 use readings::Readings;
@@ -34,28 +33,12 @@ fn status_byte(heartbeat: bool, one: u8) -> u8
     }
 }
 
-// The number of cells as PS says it.
-fn count_byte(count: u16) -> u8
-    requires { ⌜ count ≤ mostCells ⌝ }
-    ensures { λ r. ⌜ r ≡ countByte count ⌝ }
-{
-    count as u8
-}
-
-// A cell's index as CVS and CTS say it.
-fn index_byte(index: u16) -> u8
-    requires { ⌜ index ≤ mostCells ⌝ }
-    ensures { λ r. ⌜ r ≡ indexByte index ⌝ }
-{
-    index as u8
-}
-
 fn ps(own: u8, heartbeat: bool, readings: Readings, cells: Cells) -> Frame
     requires { ⌜ BoundedCells cells ⌝ }
     ensures { λ r. ⌜ r ≡ psOf own heartbeat readings cells ⌝ }
 {
     let status = status_byte(heartbeat, readings.one);
-    let count = count_byte(cells.volts.count);
+    let count = sent::count_byte(cells.volts.count);
     let current = readings.current_bits();
     let pack = readings.pack.0;
     let bytes = [
@@ -81,10 +64,10 @@ fn cvs(own: u8, cells: Cells) -> Frame
     let bytes = [
         (average % 256) as u8,
         (average / 256) as u8,
-        index_byte(cells.volts.highest.index),
+        sent::index_byte(cells.volts.highest.index),
         (highest % 256) as u8,
         (highest / 256) as u8,
-        index_byte(cells.volts.lowest.index),
+        sent::index_byte(cells.volts.lowest.index),
         (lowest % 256) as u8,
         (lowest / 256) as u8,
     ];
@@ -97,9 +80,9 @@ fn cts(own: u8, cells: Cells) -> Frame
 {
     let average = figures::average(cells.heat);
     let bytes = [
-        index_byte(cells.heat.highest.index),
+        sent::index_byte(cells.heat.highest.index),
         cells.heat.highest.value as u8,
-        index_byte(cells.heat.lowest.index),
+        sent::index_byte(cells.heat.lowest.index),
         cells.heat.lowest.value as u8,
         average as u8,
         0,

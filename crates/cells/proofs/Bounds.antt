@@ -1,5 +1,5 @@
 -- What the checks 14 and 15 give: the tables' lengths, each cell's range, and the bounds of their summaries. Assumes nothing.
-use Prim.Native.Nat.{ℕ, suc, _*_, _≤_, _<_}
+use Prim.Native.Nat.{_%_, ℕ, suc, _*_, _≤_, _<_}
 use mathlib.Core.Path.{_≡_}
 use mathlib.Core.List.{List, [], _∷_}
 use mathlib.Core.Bool.{true, _&&_}
@@ -87,3 +87,7 @@ cells-bounded v t f r =
           bounded 255 (temperatureBytes t) (omega (arith, n, g .same, g .some)) (omega (arith, n, g .same, g .most))
           (temperatures-at-most t (temperatures-good v t r));
     }
+
+-- a number of at most 255, as every count and index is, stands in its byte whole
+pub one-byte : (n : ℕ) → n ≤ mostCells → n % 256 ≡ n
+one-byte n h = omega arith

@@ -3,3 +3,4 @@ pub mod Summaries
 pub mod Groups
 pub mod Walk
 pub mod Bounds
+pub mod Sent

@@ -3,6 +3,7 @@
 // queries or when anything is sent.
 pub mod figures;
 pub mod groups;
+pub mod sent;
 pub mod tables;
 
 // A cell's value and its index from 1.

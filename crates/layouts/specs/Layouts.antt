@@ -12,6 +12,7 @@ use Rattle.settings.specs.declared.Settings.{Settings}
 use Rattle.readings.specs.declared.Readings.{Readings}
 use Rattle.readings.specs.Readings.{rawOf}
 use Rattle.cells.specs.declared.Cells.{Cells}
+use Rattle.cells.specs.Sent.{indexByte}
 use Rattle.phases.specs.declared.Phase.{Phase}
 use Rattle.phases.specs.declared.Phase.the-variants.{Drive, Rest, Hold}
 
@@ -19,7 +20,7 @@ use Rattle.phases.specs.declared.Phase.the-variants.{Drive, Rest, Hold}
 abbrev pub markOf : Bool → ℕ
 markOf on = cond on 0xaa 0x00
 
--- a number in one byte: a temperature as sent and an index are below 256
+-- a temperature as it is sent, in its byte: it is below 256
 abbrev pub byteOf : ℕ → ℕ
 byteOf n = n % 256
 
@@ -73,11 +74,11 @@ ecsOf x station r c =
 unfoldable pub esmOf : Settings → ℕ → Cells → Frame
 esmOf x station c =
     frameOf ESM station (x .own)
-    (byteOf (c .volts .highest .index)
+    (indexByte (c .volts .highest .index)
     ∷ byteOf (c .heat .highest .value)
-    ∷ byteOf (c .heat .highest .index)
+    ∷ indexByte (c .heat .highest .index)
     ∷ byteOf (c .heat .lowest .value)
-    ∷ byteOf (c .heat .lowest .index)
+    ∷ indexByte (c .heat .lowest .index)
     ∷ 0x01
     ∷ 0
     ∷ 0

@@ -4,6 +4,7 @@ ghost use mathlib.Core.Path.{_≡_};
 ghost use Rattle.buffers.specs.Words.{high};
 ghost use Rattle.layouts.specs.Layouts.{markOf, byteOf, holdVoltage, rawRequest, eimOf, evmOf, ecpOf, ermOf, ecrFrame, ecrOf, ecsOf, esmOf, estFrame, edmOf, eemOf};
 use cells::Cells;
+use cells::sent;
 use frames::Frame;
 use messages::table;
 use phases::Phase;
@@ -192,25 +193,16 @@ pub fn ecs(x: Settings, station: u8, r: Readings, c: Cells) -> Frame
 pub fn esm(x: Settings, station: u8, c: Cells) -> Frame
     ensures { λ f. ⌜ f ≡ esmOf x station c ⌝ }
 {
-    let a = c.volts.highest.index;
+    let a = sent::index_byte(c.volts.highest.index);
     let b = c.heat.highest.value;
-    let d = c.heat.highest.index;
+    let d = sent::index_byte(c.heat.highest.index);
     let e = c.heat.lowest.value;
-    let f = c.heat.lowest.index;
+    let f = sent::index_byte(c.heat.lowest.index);
     Frame::new(
         table::ROWS[table::ESM],
         station,
         x.own,
-        [
-            (a % 256) as u8,
-            (b % 256) as u8,
-            (d % 256) as u8,
-            (e % 256) as u8,
-            (f % 256) as u8,
-            0x01,
-            0,
-            0,
-        ],
+        [a, (b % 256) as u8, d, (e % 256) as u8, f, 0x01, 0, 0],
     )
 }
 

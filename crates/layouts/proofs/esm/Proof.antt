@@ -1,8 +1,18 @@
 -- `layouts::esm` meets its contract, byte by byte. Assumes nothing.
+use mathlib.Core.Path.{_∙_}
 use Rattle.layouts.specs.Layouts.{esmOf}
 use borrow.Author.Needs.{needs}
 use Rattle.layouts.proofs.esm.Statement.{statement}
 use Rattle.layouts.proofs.esm.Tie as tie
+
+index-byte-requires : tie.Need-index-byte-requires
+index-byte-requires c κs = search needs
+
+index-byte-requires-2 : tie.Need-index-byte-requires-2
+index-byte-requires-2 c κs = search needs
+
+index-byte-requires-3 : tie.Need-index-byte-requires-3
+index-byte-requires-3 c κs = search needs
 
 array-copy-out-new : tie.Need-array-copy-out-new
 array-copy-out-new c = search needs
@@ -13,23 +23,22 @@ cast-t40 c = search needs
 cast-t42 : tie.Need-cast-t42
 cast-t42 c = search needs
 
-cast-t44 : tie.Need-cast-t44
-cast-t44 c = search needs
-
-cast-t46 : tie.Need-cast-t46
-cast-t46 c = search needs
-
-cast-t48 : tie.Need-cast-t48
-cast-t48 c = search needs
-
 new-requires : tie.Need-new-requires
 new-requires c κs = search needs
 
 returns : tie.Need-returns
 unfolding esmOf
-returns c = c .new .ensures
+returns c = c .new .ensures ∙ rw (c .before .before .before .before .index-byte .ensures, c .before .before .before .index-byte2 .ensures, c .before .before .index-byte3 .ensures)
 
 pub esm-spec : {M : Type 1} → statement M
 esm-spec =
     tie.close
-    (tie.spec array-copy-out-new cast-t40 cast-t42 cast-t44 cast-t46 cast-t48 new-requires returns)
+    (tie.spec
+    index-byte-requires
+    index-byte-requires-2
+    index-byte-requires-3
+    array-copy-out-new
+    cast-t40
+    cast-t42
+    new-requires
+    returns)
