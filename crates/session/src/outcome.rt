@@ -6,6 +6,21 @@ use crate::Taken;
 use outcomes::Outcome;
 use states::State;
 
+// An answer with the silence count at 0.
+fn heard(number: u8, station: u8, count: u16, state: State) -> Taken
+    ensures { λ r. ⌜ r ≡ record { number = number; session = record { station = station; silence = 0; count = count; state = state } } ⌝ }
+{
+    Taken {
+        number: number,
+        session: Session {
+            station: station,
+            silence: 0,
+            count: count,
+            state: state,
+        },
+    }
+}
+
 pub fn applied(s: Session, source: u8, o: Outcome) -> Taken
     ensures { λ r. ⌜ r ≡ appliedOf source s o ⌝ }
 {
@@ -17,51 +32,11 @@ pub fn applied(s: Session, source: u8, o: Outcome) -> Taken
             number: 11,
             session: s,
         },
-        Outcome::OutOfStep => Taken {
-            number: 11,
-            session: Session {
-                station: station,
-                silence: 0,
-                count: count,
-                state: state,
-            },
-        },
-        Outcome::Open => Taken {
-            number: 0,
-            session: Session {
-                station: source,
-                silence: 0,
-                count: 0,
-                state: State::Offered,
-            },
-        },
-        Outcome::Heard => Taken {
-            number: 0,
-            session: Session {
-                station: station,
-                silence: 0,
-                count: count,
-                state: state,
-            },
-        },
-        Outcome::Enter(st) => Taken {
-            number: 0,
-            session: Session {
-                station: station,
-                silence: 0,
-                count: 0,
-                state: st,
-            },
-        },
-        Outcome::Keep(st) => Taken {
-            number: 0,
-            session: Session {
-                station: station,
-                silence: 0,
-                count: count,
-                state: st,
-            },
-        },
+        Outcome::OutOfStep => heard(11, station, count, state),
+        Outcome::Open => heard(0, source, 0, State::Offered),
+        Outcome::Heard => heard(0, station, count, state),
+        Outcome::Enter(st) => heard(0, station, 0, st),
+        Outcome::Keep(st) => heard(0, station, count, st),
         Outcome::End => Taken {
             number: 0,
             session: Session::idle(),

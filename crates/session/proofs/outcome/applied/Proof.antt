@@ -10,17 +10,32 @@ enum-told c = search needs
 enum-told-2 : tie.Need-enum-told-2
 enum-told-2 c = search needs
 
+heard-requires : tie.Need-heard-requires
+heard-requires c κs = search needs
+
 enum-told-3 : tie.Need-enum-told-3
 enum-told-3 c = search needs
+
+heard-requires-2 : tie.Need-heard-requires-2
+heard-requires-2 c κs = search needs
 
 enum-told-4 : tie.Need-enum-told-4
 enum-told-4 c = search needs
 
+heard-requires-3 : tie.Need-heard-requires-3
+heard-requires-3 c κs = search needs
+
 enum-known-o : tie.Need-enum-known-o
 enum-known-o c = search needs
 
+heard-requires-4 : tie.Need-heard-requires-4
+heard-requires-4 c κs = search needs
+
 enum-known-o-2 : tie.Need-enum-known-o-2
 enum-known-o-2 c = search needs
+
+heard-requires-5 : tie.Need-heard-requires-5
+heard-requires-5 c κs = search needs
 
 enum-told-5 : tie.Need-enum-told-5
 enum-told-5 c = search needs
@@ -34,23 +49,23 @@ returns c = rw (c .enum-told .given .1)
 
 returns-2 : tie.Need-returns-2
 unfolding appliedOf sessionAfter
-returns-2 c = rw (c .enum-told2 .given .1)
+returns-2 c = rw (c .before .enum-told2 .given .1) (c .heard .ensures)
 
 returns-3 : tie.Need-returns-3
 unfolding appliedOf sessionAfter
-returns-3 c = rw (c .enum-told3 .given .1)
+returns-3 c = rw (c .before .enum-told3 .given .1) (c .heard2 .ensures)
 
 returns-4 : tie.Need-returns-4
 unfolding appliedOf sessionAfter
-returns-4 c = rw (c .enum-told4 .given .1)
+returns-4 c = rw (c .before .enum-told4 .given .1) (c .heard3 .ensures)
 
 returns-5 : tie.Need-returns-5
 unfolding appliedOf sessionAfter
-returns-5 c = rw (c .before .o .given .1)
+returns-5 c = rw (c .before .before .o .given .1) (c .heard4 .ensures)
 
 returns-6 : tie.Need-returns-6
 unfolding appliedOf sessionAfter
-returns-6 c = rw (c .before .o2 .given .1)
+returns-6 c = rw (c .before .before .o2 .given .1) (c .heard5 .ensures)
 
 returns-7 : tie.Need-returns-7
 unfolding appliedOf sessionAfter
@@ -62,10 +77,15 @@ applied-spec =
     (tie.spec
     enum-told
     enum-told-2
+    heard-requires
     enum-told-3
+    heard-requires-2
     enum-told-4
+    heard-requires-3
     enum-known-o
+    heard-requires-4
     enum-known-o-2
+    heard-requires-5
     enum-told-5
     idle-requires
     returns
