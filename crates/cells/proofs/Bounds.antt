@@ -12,7 +12,8 @@ use lib.ListN.{length, getD, length-map}
 use Rattle.cells.specs.Tables.{mostCells, tablesFit, every, voltageOk, temperatureOk, cellsInRange, temperatureByte, temperatureBytes}
 use Rattle.cells.specs.Summaries.{sumOf, highestOf, lowestOf, summaryOf, cellsOf}
 use Rattle.cells.specs.Bounds.{Bounded, BoundedCells}
-use Rattle.cells.proofs.Every.{and-left, and-right, every-at, at-map}
+use Rattle.buffers.proofs.Tests.{and-left, and-right}
+use Rattle.cells.proofs.Every.{every-at, at-map}
 use Rattle.cells.proofs.Temperatures.{sent}
 use Rattle.cells.proofs.Extremes.{In, highest-in, lowest-in, highest-first, lowest-first}
 

@@ -7,15 +7,8 @@ use native.Mathlib.Numerals.{add-one}
 use native.Mathlib.Nat.{le-of-suc-le-suc, not-suc-le-zero}
 use lib.ListN.{length, getD, drop, drop-of-length-le}
 use lib.Seq.{drop-cons}
+use Rattle.buffers.proofs.Tests.{and-left, and-right}
 use Rattle.cells.specs.Tables.{every}
-
-pub and-left : (a b : Bool) → a && b ≡ true → a ≡ true
-and-left true b h = refl
-and-left false b h = h
-
-pub and-right : (a b : Bool) → a && b ≡ true → b ≡ true
-and-right true b h = h
-and-right false b h = let z : _≡_ {A = Bool} true false = sym h in cc
 
 module _ {ℓ} {A : Type ℓ} (f : A → Bool) (d : A) (xs : List A) (i : ℕ) (b : Bool) where
   -- a turn of a walk that has found b up to cell i

@@ -7,7 +7,7 @@ use borrow.Author.Tests.{leb-true, le-ltb}
 use lib.Dec.{leb}
 use lib.IntN.{ℤ, pos, negsuc, _+ℤ_}
 use Rattle.cells.specs.Tables.{temperatureOk, temperatureByte}
-use Rattle.cells.proofs.Every.{and-left}
+use Rattle.buffers.proofs.Tests.{and-left}
 
 -- it is F + 50, and a byte
 pub record Sent (t : ℤ) : Type 0 where

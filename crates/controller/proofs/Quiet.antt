@@ -5,6 +5,7 @@ use mathlib.Core.Path.{_≡_, refl, sym, _∙_, ap}
 use mathlib.Core.Bool.{Bool, true, false, not, cond, _&&_, false≢true}
 use mathlib.Core.List.{List, [], _∷_}
 use Rattle.frames.specs.declared.Frame.{Frame}
+use Rattle.buffers.proofs.Tests.{and-left}
 use Rattle.settings.specs.declared.Settings.{Settings}
 use Rattle.settings.specs.declared.Versions.{Versions}
 use Rattle.readings.specs.declared.Readings.{Readings}
@@ -18,10 +19,6 @@ use Rattle.session.specs.Tick.{turnedBy, turnIn, advanceIn, advanceOf, tickOf, 
 use Rattle.broadcasts.specs.Beat.{dueAt}
 use Rattle.broadcasts.specs.Sendings.{broadcastAt}
 use Rattle.controller.specs.Frame.{isIdle}
-
-and-left : (a b : Bool) → (a && b) ≡ true → a ≡ true
-and-left true b e = refl
-and-left false b e = e
 
 not-false : (a b : Bool) → (a && not b) ≡ true → b ≡ false
 not-false true true e = absurd (false≢true e)

@@ -10,6 +10,7 @@ use lib.IntN.{ℤ}
 use lib.ListN.{length, take, drop}
 use lib.Seq.{take-nil}
 use borrow.Author.Tests.{lt-ltb, ltb-false, eq-eqb, ne-eqb}
+use Rattle.buffers.proofs.Tests.{and-right}
 use Rattle.frames.specs.declared.Frame.{Frame}
 use Rattle.frames.specs.Frame.{recordsOf}
 use Rattle.frames.specs.Sent.{Sent}
@@ -52,10 +53,6 @@ unfolding tickNumber
 fine r v t room e =
     let h = tests (tablesFit v t) (inRange r && cellsInRange v t) (ltb room 117) e in
     record { fits = h .0; range = h .1; room-117 = ltb-false room 117 (h .2) }
-
-and-right : (a b : Bool) → (a && b) ≡ true → b ≡ true
-and-right true b e = e
-and-right false b e = let z : _≡_ {A = ℕ} 0 1 = cc in absurd (omega arith)
 
 pub fine-cells : {r : Readings} {v : List ℕ} {t : List ℤ} {room : ℕ} → Fine r v t room → cellsInRange v t ≡ true
 fine-cells {r} {v} {t} {room} f = and-right (inRange r) (cellsInRange v t) (f .range)

@@ -11,7 +11,7 @@ use lib.Dec.{leb}
 use lib.IntN.{pos, negsuc, _-ℤ_}
 use lib.Signed.{leZ}
 use Rattle.settings.specs.declared.Settings.{Settings}
-use Rattle.settings.proofs.Tests.{and-left, and-right}
+use Rattle.buffers.proofs.Tests.{and-left, and-right}
 use Rattle.charge_messages.specs.declared.Offer.{Offer}
 use Rattle.outcomes.specs.Offer.{tenthsOf, acceptedOf, stationMost}
 

@@ -21,7 +21,7 @@ use Rattle.settings.specs.Range.{within, distinct, eachGood, stationList
 use Rattle.settings.specs.Record.{field, versionList, recordOf}
 use Rattle.settings.specs.Read.{headAt, layoutOf, settingsOf, recordNumber, answerNumber, readOf}
 use Rattle.settings.specs.Write.{Wrote, writeNumber, writtenOf, laterOf}
-use Rattle.settings.proofs.Tests.{and-left, and-right}
+use Rattle.buffers.proofs.Tests.{and-left, and-right}
 
 -- ---- ranges
 

@@ -23,7 +23,7 @@ use Rattle.settings.specs.Record.{field, versionList, recordOf}
 use Rattle.settings.specs.Read.{headAt, layoutOf, stationAt, stationsAt, versionsAt, settingsOf, readOf}
 use Rattle.settings.specs.Tidy.{tidy, tidyStations, Bytes}
 use Rattle.settings.specs.Write.{Wrote, writeNumber, writtenOf, laterOf}
-use Rattle.settings.proofs.Tests.{and-left, and-right}
+use Rattle.buffers.proofs.Tests.{and-left, and-right}
 use Rattle.settings.proofs.Laws.{range-some, range-four, length-record, within-least, within-most, read-0}
 
 -- what holds at 1, 2, 3 and 4 holds at each n from 1 to 4
