@@ -1,0 +1,419 @@
+// One line of a script, carried out.
+use crate::calls;
+use crate::calls::Lent;
+use crate::calls::Standing;
+use crate::calls::Unit;
+use crate::clock;
+use crate::clock::Clock;
+use crate::clock::Due;
+use crate::clock::Time;
+use crate::print;
+use crate::tables;
+use crate::tables::Table;
+use crate::words;
+use crate::words::Hex;
+use crate::words::Word;
+use controller::Controller;
+use controller::Start;
+use readings::Marks;
+use readings::Readings;
+use units::TenthVolts;
+
+// The controller in use, or none.
+pub enum Held {
+    Made(Controller),
+    Nothing,
+}
+
+// All that a run keeps from line to line, but for the tables and the buffers: the controller, the ticks that it has accepted, what
+// ticks are lent, the clock, the line's number and the free place of the output.
+pub struct Run {
+    pub held: Held,
+    pub accepted: u64,
+    pub lent: Lent,
+    pub clock: Clock,
+    pub number: u64,
+    pub out: usize,
+}
+
+// A received frame in a line: its identifier and the number of its data bytes.
+enum Received {
+    Frame(u32, usize),
+    Not,
+}
+
+// Readings `1 192 50 0 3000 1000 0 0 0 0`, one voltage, one temperature, a buffer of 117.
+fn lent() -> Lent {
+    Lent {
+        readings: Readings {
+            one: 1,
+            two: 192,
+            soc: 50,
+            current: 0,
+            pack: TenthVolts(3000),
+            capacity: 1000,
+            faults: Marks {
+                active: 0,
+                latched: 0,
+            },
+            warnings: Marks {
+                active: 0,
+                latched: 0,
+            },
+        },
+        volts: 1,
+        temps: 1,
+        room: 117,
+    }
+}
+
+fn place(x: u64) -> usize {
+    if x <= 4096 { x as usize } else { 0 }
+}
+
+fn is_one(line: &[u8; 4096], used: usize, w: Word, b: u8) -> bool {
+    (words::byte_at(line, used, w.from) == b) & (words::after(w.from) == w.to)
+}
+
+// The bytes of a settings record, or `-`.
+fn record(line: &[u8; 4096], used: usize, w: Word, bytes: &mut [u8; 2048]) -> Hex {
+    if w.is_empty() {
+        return Hex::Not;
+    }
+    if !words::is_end(line, used, w.to) {
+        return Hex::Not;
+    }
+    if is_one(line, used, w, b'-') {
+        return Hex::Bytes(0);
+    }
+    words::hex(line, used, w.from, w.to, bytes)
+}
+
+fn identifier(x: u64, n: usize) -> Received {
+    if x <= 0xffff_ffff {
+        Received::Frame(x as u32, n)
+    } else {
+        Received::Not
+    }
+}
+
+// ID#DATA, the last word of its line.
+fn received(line: &[u8; 4096], used: usize, w: Word, bytes: &mut [u8; 64]) -> Received {
+    let d = words::digits(line, used, w.from, true);
+    let mark = words::byte_at(line, used, d.at) == b'#';
+    let ends = words::is_end(line, used, w.to);
+    let some = (1 <= d.count) & (d.count <= 8);
+    if mark & (ends & some) {
+        match words::hex(line, used, words::after(d.at), w.to, bytes) {
+            Hex::Bytes(n) => identifier(d.value, n),
+            Hex::Not => Received::Not,
+        }
+    } else {
+        Received::Not
+    }
+}
+
+impl Run {
+    pub fn start() -> Run {
+        Run {
+            held: Held::Nothing,
+            accepted: 0,
+            lent: lent(),
+            clock: Clock::start(),
+            number: 0,
+            out: 0,
+        }
+    }
+
+    fn with_out(self, at: usize) -> Run {
+        let mut r = self;
+        r.out = at;
+        r
+    }
+
+    fn with_unit(self, u: Unit) -> Run {
+        let c = u.controller;
+        let l = self.lent;
+        let k = self.clock;
+        Run {
+            held: Held::Made(c),
+            accepted: u.accepted,
+            lent: l,
+            clock: k,
+            number: self.number,
+            out: u.out,
+        }
+    }
+
+    fn unit(self, c: Controller) -> Unit {
+        Unit {
+            controller: c,
+            accepted: self.accepted,
+            out: self.out,
+        }
+    }
+
+    pub fn unreadable(self, o: &mut [u8; 65536]) -> Run {
+        let at = print::numbered(o, self.out, b"unreadable line ", self.number);
+        self.with_out(at)
+    }
+
+    fn absent(self, o: &mut [u8; 65536]) -> Run {
+        let at = print::text(o, self.out, b"no controller\n");
+        self.with_out(at)
+    }
+
+    fn standing(self) -> Standing {
+        let held = self.held;
+        match held {
+            Held::Made(c) => Standing::of(c),
+            Held::Nothing => Standing::idle(),
+        }
+    }
+
+    // A settings record that has been read.
+    fn started(self, s: Start, o: &mut [u8; 65536]) -> Run {
+        match s {
+            Start::Made(c) => {
+                let a = print::numbered(o, self.out, b"settings ", 0);
+                let now = Standing::of(c);
+                let b = now.print_if_new(self.standing(), o, a);
+                self.with_unit(Unit {
+                    controller: c,
+                    accepted: 0,
+                    out: b,
+                })
+            }
+            Start::Refused(n) => {
+                let a = print::numbered(o, self.out, b"settings ", n as u64);
+                self.with_out(a)
+            }
+        }
+    }
+
+    fn settings(self, line: &[u8; 4096], used: usize, at: usize, o: &mut [u8; 65536]) -> Run {
+        let mut bytes = [0u8; 2048];
+        let w = words::word(line, used, at);
+        match record(line, used, w, &mut bytes) {
+            Hex::Bytes(n) => self.started(calls::started(&bytes, n), o),
+            Hex::Not => self.unreadable(o),
+        }
+    }
+
+    fn readings(self, line: &[u8; 4096], used: usize, at: usize, o: &mut [u8; 65536]) -> Run {
+        let k = tables::readings(line, used, at);
+        if k.good {
+            let mut r = self;
+            let x = k.readings;
+            r.lent.readings = x;
+            r
+        } else {
+            self.unreadable(o)
+        }
+    }
+
+    fn voltages(
+        self,
+        line: &[u8; 4096],
+        used: usize,
+        at: usize,
+        v: &mut [u16; 512],
+        o: &mut [u8; 65536],
+    ) -> Run {
+        match tables::table(line, used, at, false) {
+            Table::Of(n) => {
+                tables::keep_voltages(line, used, at, n, v);
+                let mut r = self;
+                r.lent.volts = n;
+                r
+            }
+            Table::Not => self.unreadable(o),
+        }
+    }
+
+    fn temperatures(
+        self,
+        line: &[u8; 4096],
+        used: usize,
+        at: usize,
+        t: &mut [i16; 512],
+        o: &mut [u8; 65536],
+    ) -> Run {
+        match tables::table(line, used, at, true) {
+            Table::Of(n) => {
+                tables::keep_temperatures(line, used, at, n, t);
+                let mut r = self;
+                r.lent.temps = n;
+                r
+            }
+            Table::Not => self.unreadable(o),
+        }
+    }
+
+    fn buffer(self, line: &[u8; 4096], used: usize, at: usize, o: &mut [u8; 65536]) -> Run {
+        let f = tables::only(line, used, at, 4096);
+        if f.good {
+            let mut r = self;
+            r.lent.room = place(f.value);
+            r
+        } else {
+            self.unreadable(o)
+        }
+    }
+
+    // So many ticks, where there is a controller.
+    fn run_ticks(
+        self,
+        n: u64,
+        v: &[u16; 512],
+        t: &[i16; 512],
+        buf: &mut [u8; 4096],
+        o: &mut [u8; 65536],
+    ) -> Run {
+        let held = self.held;
+        match held {
+            Held::Made(c) => {
+                let u = self.unit(c);
+                let l = self.lent;
+                self.with_unit(u.ticks(n, l, v, t, buf, o))
+            }
+            Held::Nothing => self,
+        }
+    }
+
+    fn tick(
+        self,
+        line: &[u8; 4096],
+        used: usize,
+        at: usize,
+        v: &[u16; 512],
+        t: &[i16; 512],
+        buf: &mut [u8; 4096],
+        o: &mut [u8; 65536],
+    ) -> Run {
+        let f = tables::one_or(line, used, at, 10_000_000);
+        if !f.good {
+            return self.unreadable(o);
+        }
+        let held = self.held;
+        match held {
+            Held::Made(_) => self.run_ticks(f.value, v, t, buf, o),
+            Held::Nothing => self.absent(o),
+        }
+    }
+
+    fn write(
+        self,
+        line: &[u8; 4096],
+        used: usize,
+        at: usize,
+        buf: &mut [u8; 4096],
+        o: &mut [u8; 65536],
+    ) -> Run {
+        let f = tables::only(line, used, at, 4096);
+        if !f.good {
+            return self.unreadable(o);
+        }
+        let held = self.held;
+        match held {
+            Held::Made(c) => {
+                let u = self.unit(c);
+                let a = u.write(place(f.value), buf, o);
+                self.with_out(a)
+            }
+            Held::Nothing => self.absent(o),
+        }
+    }
+
+    // A frame that has been read.
+    fn hand(self, id: u32, bytes: &[u8; 64], n: usize, o: &mut [u8; 65536]) -> Run {
+        let held = self.held;
+        match held {
+            Held::Made(c) => {
+                let u = self.unit(c);
+                self.with_unit(u.frame(id, bytes, n, o))
+            }
+            Held::Nothing => self.absent(o),
+        }
+    }
+
+    fn frame(self, line: &[u8; 4096], used: usize, w: Word, o: &mut [u8; 65536]) -> Run {
+        let mut bytes = [0u8; 64];
+        match received(line, used, w, &mut bytes) {
+            Received::Frame(id, n) => self.hand(id, &bytes, n, o),
+            Received::Not => self.unreadable(o),
+        }
+    }
+
+    // A frame of a log, at its time: first the ticks that are due.
+    fn log(
+        self,
+        line: &[u8; 4096],
+        used: usize,
+        w: Word,
+        v: &[u16; 512],
+        t: &[i16; 512],
+        buf: &mut [u8; 4096],
+        o: &mut [u8; 65536],
+    ) -> Run {
+        let mut bytes = [0u8; 64];
+        let face = words::word(line, used, w.to);
+        let last = words::word(line, used, face.to);
+        let Received::Frame(id, n) = received(line, used, last, &mut bytes) else {
+            return self.unreadable(o);
+        };
+        let Time::At(now) = clock::time(line, used, w) else {
+            return self.unreadable(o);
+        };
+        let clock = self.clock;
+        match clock.due(now) {
+            Due::Ticks(k, later) => {
+                let mut r = self;
+                r.clock = later;
+                let s = r.run_ticks(k, v, t, buf, o);
+                s.hand(id, &bytes, n, o)
+            }
+            Due::TooMany => self.unreadable(o),
+        }
+    }
+
+    // The line, by its first word.
+    pub fn line(
+        self,
+        line: &[u8; 4096],
+        used: usize,
+        v: &mut [u16; 512],
+        t: &mut [i16; 512],
+        buf: &mut [u8; 4096],
+        o: &mut [u8; 65536],
+    ) -> Run {
+        let w = words::word(line, used, 0);
+        let at = w.to;
+        let first = words::byte_at(line, used, w.from);
+        if first == b'(' {
+            return self.log(line, used, w, v, t, buf, o);
+        }
+        if words::is_word(line, used, w, b"tick") {
+            return self.tick(line, used, at, v, t, buf, o);
+        }
+        if words::is_word(line, used, w, b"readings") {
+            return self.readings(line, used, at, o);
+        }
+        if words::is_word(line, used, w, b"voltages") {
+            return self.voltages(line, used, at, v, o);
+        }
+        if words::is_word(line, used, w, b"temperatures") {
+            return self.temperatures(line, used, at, t, o);
+        }
+        if words::is_word(line, used, w, b"buffer") {
+            return self.buffer(line, used, at, o);
+        }
+        if words::is_word(line, used, w, b"settings") {
+            return self.settings(line, used, at, o);
+        }
+        if words::is_word(line, used, w, b"write") {
+            return self.write(line, used, at, buf, o);
+        }
+        self.frame(line, used, w, o)
+    }
+}
