@@ -1,4 +1,5 @@
 // One call of the controller, and the lines that say what it answered, sent and entered.
+ghost use Prim.Native.Nat.{_≤_};
 use crate::print;
 use controller::Answer;
 use controller::Controller;
@@ -28,7 +29,9 @@ pub struct Standing {
     pub station: u8,
 }
 
-fn least(a: usize, b: usize) -> usize {
+fn least(a: usize, b: usize) -> usize
+    ensures { λ r. ⌜ r ≤ b ⌝ }
+{
     if a < b { a } else { b }
 }
 
@@ -126,20 +129,34 @@ fn written(c: Controller, buf: &mut [u8], n: usize) -> settings::Written {
     c.write(&mut buf[0..k])
 }
 
+// A tick's time, 50 ms a tick.
+fn print_time(tick: u64, o: &mut [u8; 65536], at: usize) -> usize {
+    let a = print::put(o, at, b'(');
+    let b = print::decimal(o, a, tick / 20, 10);
+    let c = print::put(o, b, b'.');
+    let d = print::decimal(o, c, tick % 20 * 50_000, 6);
+    print::text(o, d, b") can0 ")
+}
+
+// The identifier of a frame of a buffer.
+fn print_identifier(buf: &[u8; 4096], i: usize, o: &mut [u8; 65536], at: usize) -> usize
+    requires { ⌜ i ≤ 4096 ⌝ }
+{
+    let a = print::byte(o, at, buffers::byte_at(buf, i + 3));
+    let b = print::byte(o, a, buffers::byte_at(buf, i + 2));
+    let c = print::byte(o, b, buffers::byte_at(buf, i + 1));
+    print::byte(o, c, buffers::byte_at(buf, i))
+}
+
 // One frame of a buffer, as candump writes it.
-fn print_frame(buf: &[u8; 4096], i: usize, tick: u64, o: &mut [u8; 65536], at: usize) -> usize {
-    let mut a = print::put(o, at, b'(');
-    a = print::decimal(o, a, tick / 20, 10);
-    a = print::put(o, a, b'.');
-    a = print::decimal(o, a, tick % 20 * 50_000, 6);
-    a = print::text(o, a, b") can0 ");
-    a = print::byte(o, a, buffers::byte_at(buf, i + 3));
-    a = print::byte(o, a, buffers::byte_at(buf, i + 2));
-    a = print::byte(o, a, buffers::byte_at(buf, i + 1));
-    a = print::byte(o, a, buffers::byte_at(buf, i));
-    a = print::put(o, a, b'#');
-    a = print::bytes(o, a, buf, i + 5, i + 13);
-    print::put(o, a, b'\n')
+fn print_frame(buf: &[u8; 4096], i: usize, tick: u64, o: &mut [u8; 65536], at: usize) -> usize
+    requires { ⌜ i ≤ 4096 ⌝ }
+{
+    let a = print_time(tick, o, at);
+    let b = print_identifier(buf, i, o, a);
+    let c = print::put(o, b, b'#');
+    let d = print::bytes(o, c, buf, i + 5, i + 13);
+    print::put(o, d, b'\n')
 }
 
 // The frames in the first n bytes of a buffer.
@@ -161,7 +178,7 @@ fn next(n: u64) -> u64 {
 }
 
 impl Unit {
-    pub fn frame(self, id: u32, bytes: &[u8; 64], n: usize, o: &mut [u8; 65536]) -> Unit {
+    pub fn frame(self, id: u32, bytes: &[u8; 2048], n: usize, o: &mut [u8; 65536]) -> Unit {
         let c = self.controller;
         let before = Standing::of(c);
         let r = answered(c, id, bytes, n);

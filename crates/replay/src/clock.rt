@@ -34,9 +34,9 @@ fn microseconds(s: u64, u: u64) -> u64 {
 }
 
 // (SECONDS.MICROS), 1 to 12 digits and six.
-pub fn time(line: &[u8; 4096], used: usize, w: Word) -> Time {
-    let s = words::digits(line, used, words::after(w.from), false);
-    let u = words::digits(line, used, words::after(s.at), false);
+pub fn read_time(line: &[u8; 4096], used: usize, w: Word) -> Time {
+    let s = words::read_digits(line, used, words::after(w.from), false);
+    let u = words::read_digits(line, used, words::after(s.at), false);
     let opens = words::byte_at(line, used, w.from) == b'(';
     let dot = words::byte_at(line, used, s.at) == b'.';
     let closes = words::byte_at(line, used, u.at) == b')';

@@ -43,7 +43,7 @@ enum Received {
 }
 
 // Readings `1 192 50 0 3000 1000 0 0 0 0`, one voltage, one temperature, a buffer of 117.
-fn lent() -> Lent {
+fn first_lent() -> Lent {
     Lent {
         readings: Readings {
             one: 1,
@@ -86,10 +86,13 @@ fn record(line: &[u8; 4096], used: usize, w: Word, bytes: &mut [u8; 2048]) -> He
     if is_one(line, used, w, b'-') {
         return Hex::Bytes(0);
     }
-    words::hex(line, used, w.from, w.to, bytes)
+    words::read_hex(line, used, w.from, w.to, bytes)
 }
 
-fn identifier(x: u64, n: usize) -> Received {
+fn identified(x: u64, n: usize) -> Received {
+    if 64 < n {
+        return Received::Not;
+    }
     if x <= 0xffff_ffff {
         Received::Frame(x as u32, n)
     } else {
@@ -98,14 +101,14 @@ fn identifier(x: u64, n: usize) -> Received {
 }
 
 // ID#DATA, the last word of its line.
-fn received(line: &[u8; 4096], used: usize, w: Word, bytes: &mut [u8; 64]) -> Received {
-    let d = words::digits(line, used, w.from, true);
+fn read_frame(line: &[u8; 4096], used: usize, w: Word, bytes: &mut [u8; 2048]) -> Received {
+    let d = words::read_digits(line, used, w.from, true);
     let mark = words::byte_at(line, used, d.at) == b'#';
     let ends = words::is_end(line, used, w.to);
     let some = (1 <= d.count) & (d.count <= 8);
     if mark & (ends & some) {
-        match words::hex(line, used, words::after(d.at), w.to, bytes) {
-            Hex::Bytes(n) => identifier(d.value, n),
+        match words::read_hex(line, used, words::after(d.at), w.to, bytes) {
+            Hex::Bytes(n) => identified(d.value, n),
             Hex::Not => Received::Not,
         }
     } else {
@@ -118,7 +121,7 @@ impl Run {
         Run {
             held: Held::Nothing,
             accepted: 0,
-            lent: lent(),
+            lent: first_lent(),
             clock: Clock::start(),
             number: 0,
             out: 0,
@@ -171,9 +174,9 @@ impl Run {
         }
     }
 
-    // A settings record that has been read.
-    fn started(self, s: Start, o: &mut [u8; 65536]) -> Run {
-        match s {
+    // A settings record of so many bytes.
+    fn started(self, bytes: &[u8; 2048], n: usize, o: &mut [u8; 65536]) -> Run {
+        match calls::started(bytes, n) {
             Start::Made(c) => {
                 let a = print::numbered(o, self.out, b"settings ", 0);
                 let now = Standing::of(c);
@@ -193,19 +196,26 @@ impl Run {
 
     fn settings(self, line: &[u8; 4096], used: usize, at: usize, o: &mut [u8; 65536]) -> Run {
         let mut bytes = [0u8; 2048];
-        let w = words::word(line, used, at);
+        let w = words::next_word(line, used, at);
         match record(line, used, w, &mut bytes) {
-            Hex::Bytes(n) => self.started(calls::started(&bytes, n), o),
+            Hex::Bytes(n) => self.started(&bytes, n, o),
             Hex::Not => self.unreadable(o),
         }
     }
 
     fn readings(self, line: &[u8; 4096], used: usize, at: usize, o: &mut [u8; 65536]) -> Run {
-        let k = tables::readings(line, used, at);
+        let k = tables::read_readings(line, used, at);
         if k.good {
-            let mut r = self;
             let x = k.readings;
-            r.lent.readings = x;
+            let l = self.lent;
+            let next = Lent {
+                readings: x,
+                volts: l.volts,
+                temps: l.temps,
+                room: l.room,
+            };
+            let mut r = self;
+            r.lent = next;
             r
         } else {
             self.unreadable(o)
@@ -220,7 +230,7 @@ impl Run {
         v: &mut [u16; 512],
         o: &mut [u8; 65536],
     ) -> Run {
-        match tables::table(line, used, at, false) {
+        match tables::count_numbers(line, used, at, false) {
             Table::Of(n) => {
                 tables::keep_voltages(line, used, at, n, v);
                 let mut r = self;
@@ -239,7 +249,7 @@ impl Run {
         t: &mut [i16; 512],
         o: &mut [u8; 65536],
     ) -> Run {
-        match tables::table(line, used, at, true) {
+        match tables::count_numbers(line, used, at, true) {
             Table::Of(n) => {
                 tables::keep_temperatures(line, used, at, n, t);
                 let mut r = self;
@@ -254,7 +264,8 @@ impl Run {
         let f = tables::only(line, used, at, 4096);
         if f.good {
             let mut r = self;
-            r.lent.room = place(f.value);
+            let n = place(f.value);
+            r.lent.room = n;
             r
         } else {
             self.unreadable(o)
@@ -326,7 +337,7 @@ impl Run {
     }
 
     // A frame that has been read.
-    fn hand(self, id: u32, bytes: &[u8; 64], n: usize, o: &mut [u8; 65536]) -> Run {
+    fn hand(self, id: u32, bytes: &[u8; 2048], n: usize, o: &mut [u8; 65536]) -> Run {
         let held = self.held;
         match held {
             Held::Made(c) => {
@@ -338,8 +349,8 @@ impl Run {
     }
 
     fn frame(self, line: &[u8; 4096], used: usize, w: Word, o: &mut [u8; 65536]) -> Run {
-        let mut bytes = [0u8; 64];
-        match received(line, used, w, &mut bytes) {
+        let mut bytes = [0u8; 2048];
+        match read_frame(line, used, w, &mut bytes) {
             Received::Frame(id, n) => self.hand(id, &bytes, n, o),
             Received::Not => self.unreadable(o),
         }
@@ -356,13 +367,13 @@ impl Run {
         buf: &mut [u8; 4096],
         o: &mut [u8; 65536],
     ) -> Run {
-        let mut bytes = [0u8; 64];
-        let face = words::word(line, used, w.to);
-        let last = words::word(line, used, face.to);
-        let Received::Frame(id, n) = received(line, used, last, &mut bytes) else {
+        let mut bytes = [0u8; 2048];
+        let face = words::next_word(line, used, w.to);
+        let last = words::next_word(line, used, face.to);
+        let Received::Frame(id, n) = read_frame(line, used, last, &mut bytes) else {
             return self.unreadable(o);
         };
-        let Time::At(now) = clock::time(line, used, w) else {
+        let Time::At(now) = clock::read_time(line, used, w) else {
             return self.unreadable(o);
         };
         let clock = self.clock;
@@ -387,7 +398,7 @@ impl Run {
         buf: &mut [u8; 4096],
         o: &mut [u8; 65536],
     ) -> Run {
-        let w = words::word(line, used, 0);
+        let w = words::next_word(line, used, 0);
         let at = w.to;
         let first = words::byte_at(line, used, w.from);
         if first == b'(' {

@@ -1,7 +1,6 @@
 // The readings and the cell tables that a line gives. Nothing is kept of a line that cannot be read.
 use crate::words;
 use crate::words::Fit;
-use crate::words::SignedFit;
 use readings::Marks;
 use readings::Readings;
 use units::TenthVolts;
@@ -33,9 +32,9 @@ fn wide(x: u64) -> u16 {
 }
 
 // The next number, at most so much.
-fn part(line: &[u8; 4096], used: usize, at: usize, most: u64) -> Part {
-    let w = words::word(line, used, at);
-    let n = words::number(line, used, w);
+fn next_part(line: &[u8; 4096], used: usize, at: usize, most: u64) -> Part {
+    let w = words::next_word(line, used, at);
+    let n = words::read_number(line, used, w);
     let f = n.up_to(most);
     Part {
         good: f.good,
@@ -45,19 +44,19 @@ fn part(line: &[u8; 4096], used: usize, at: usize, most: u64) -> Part {
 }
 
 // Ten numbers and no more.
-pub fn readings(line: &[u8; 4096], used: usize, at: usize) -> ReadingsRead {
-    let one = part(line, used, at, 255);
-    let two = part(line, used, one.at, 255);
-    let soc = part(line, used, two.at, 255);
-    let w = words::word(line, used, soc.at);
-    let n = words::number(line, used, w);
+pub fn read_readings(line: &[u8; 4096], used: usize, at: usize) -> ReadingsRead {
+    let one = next_part(line, used, at, 255);
+    let two = next_part(line, used, one.at, 255);
+    let soc = next_part(line, used, two.at, 255);
+    let w = words::next_word(line, used, soc.at);
+    let n = words::read_number(line, used, w);
     let current = n.signed();
-    let pack = part(line, used, w.to, 65535);
-    let capacity = part(line, used, pack.at, 65535);
-    let af = part(line, used, capacity.at, 255);
-    let lf = part(line, used, af.at, 255);
-    let aw = part(line, used, lf.at, 255);
-    let lw = part(line, used, aw.at, 255);
+    let pack = next_part(line, used, w.to, 65535);
+    let capacity = next_part(line, used, pack.at, 65535);
+    let af = next_part(line, used, capacity.at, 255);
+    let lf = next_part(line, used, af.at, 255);
+    let aw = next_part(line, used, lf.at, 255);
+    let lw = next_part(line, used, aw.at, 255);
     let ends = words::is_end(line, used, lw.at);
     let first = one.good & (two.good & (soc.good & (current.good & pack.good)));
     let second = capacity.good & (af.good & (lf.good & (aw.good & lw.good)));
@@ -83,15 +82,15 @@ pub fn readings(line: &[u8; 4096], used: usize, at: usize) -> ReadingsRead {
 }
 
 // How many numbers there are from a place on: at most 512, each a 16-bit number, signed or not.
-pub fn table(line: &[u8; 4096], used: usize, from: usize, signed: bool) -> Table {
+pub fn count_numbers(line: &[u8; 4096], used: usize, from: usize, signed: bool) -> Table {
     let mut n = 0;
     let mut at = from;
     while n <= 512 {
-        let w = words::word(line, used, at);
+        let w = words::next_word(line, used, at);
         if w.is_empty() {
             return Table::Of(n);
         }
-        let x = words::number(line, used, w);
+        let x = words::read_number(line, used, w);
         let a = x.signed();
         let b = x.up_to(65535);
         let good = if signed { a.good } else { b.good };
@@ -111,7 +110,7 @@ pub fn keep_voltages(line: &[u8; 4096], used: usize, from: usize, n: usize, v: &
         if n <= i {
             break;
         }
-        let p = part(line, used, at, 65535);
+        let p = next_part(line, used, at, 65535);
         v[i] = wide(p.value);
         at = p.at;
         i += 1;
@@ -131,10 +130,11 @@ pub fn keep_temperatures(
         if n <= i {
             break;
         }
-        let w = words::word(line, used, at);
-        let x = words::number(line, used, w);
+        let w = words::next_word(line, used, at);
+        let x = words::read_number(line, used, w);
         let f = x.signed();
-        t[i] = f.value;
+        let y = f.value;
+        t[i] = y;
         at = w.to;
         i += 1;
     }
@@ -142,7 +142,7 @@ pub fn keep_temperatures(
 
 // The one number of a line.
 pub fn only(line: &[u8; 4096], used: usize, at: usize, most: u64) -> Fit {
-    let p = part(line, used, at, most);
+    let p = next_part(line, used, at, most);
     let ends = words::is_end(line, used, p.at);
     Fit {
         good: p.good & ends,

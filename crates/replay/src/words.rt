@@ -83,7 +83,7 @@ fn end(line: &[u8; 4096], used: usize, from: usize) -> usize {
 }
 
 // The first word from a place on.
-pub fn word(line: &[u8; 4096], used: usize, from: usize) -> Word {
+pub fn next_word(line: &[u8; 4096], used: usize, from: usize) -> Word {
     let at = skip(line, used, from);
     Word {
         from: at,
@@ -99,7 +99,7 @@ impl Word {
 
 // No word from a place on.
 pub fn is_end(line: &[u8; 4096], used: usize, from: usize) -> bool {
-    let w = word(line, used, from);
+    let w = next_word(line, used, from);
     w.is_empty()
 }
 
@@ -149,14 +149,14 @@ impl Digits {
 }
 
 // The digits from a place on, decimal or hex.
-pub fn digits(line: &[u8; 4096], used: usize, from: usize, sixteen: bool) -> Digits {
+pub fn read_digits(line: &[u8; 4096], used: usize, from: usize, sixteen: bool) -> Digits {
     let base = if sixteen { 16 } else { 10 };
     let mut d = Digits {
         count: 0,
         value: 0,
         at: from,
     };
-    let mut turns = 4096;
+    let mut turns = 4096u64;
     while 0 < turns {
         let x = digit(byte_at(line, used, d.at));
         if base <= x {
@@ -169,13 +169,13 @@ pub fn digits(line: &[u8; 4096], used: usize, from: usize, sixteen: bool) -> Dig
 }
 
 // The word as a decimal number with a sign or none.
-pub fn number(line: &[u8; 4096], used: usize, w: Word) -> Number {
+pub fn read_number(line: &[u8; 4096], used: usize, w: Word) -> Number {
     let from = w.from;
     let sign = byte_at(line, used, from);
     let minus = sign == b'-';
     let signed = minus | (sign == b'+');
     let start = if signed { after(from) } else { from };
-    let d = digits(line, used, start, false);
+    let d = read_digits(line, used, start, false);
     if d.count == 0 {
         return Number::Not;
     }
@@ -234,16 +234,21 @@ fn positive(x: u64) -> i16 {
 
 // Down to -32768, which also stands for all below.
 fn negative(x: u64) -> i16 {
-    if x <= 32767 {
-        let y = x as i16;
-        0 - y
-    } else {
-        -32768
+    if 32767 < x {
+        return -32768;
     }
+    let y = x as i16;
+    0 - y
 }
 
-// The bytes in hex from a place up to another, no more than the array holds.
-pub fn hex(line: &[u8; 4096], used: usize, from: usize, to: usize, out: &mut [u8]) -> Hex {
+// The bytes in hex from a place up to another.
+pub fn read_hex(
+    line: &[u8; 4096],
+    used: usize,
+    from: usize,
+    to: usize,
+    out: &mut [u8; 2048],
+) -> Hex {
     let mut n = 0;
     let mut at = from;
     while at < 4096 {
@@ -258,7 +263,7 @@ pub fn hex(line: &[u8; 4096], used: usize, from: usize, to: usize, out: &mut [u8
         if 16 <= b {
             return Hex::Not;
         }
-        if out.len() <= n {
+        if 2048 <= n {
             return Hex::Not;
         }
         out[n] = a * 16 + b;
