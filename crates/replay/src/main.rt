@@ -98,5 +98,5 @@ fn main() {
         turns -= 1;
     }
     let r = ended(p.run, p.line, &kept, &mut v, &mut t, &mut buf, &mut o);
-    print::flush(&o, r.out);
+    print::finish(&o, r.out);
 }

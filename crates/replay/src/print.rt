@@ -2,7 +2,7 @@
 use libc::STDOUT_FILENO;
 
 // The first `at` bytes of the buffer, written out.
-pub fn flush(o: &[u8], at: usize) {
+fn flush(o: &[u8], at: usize) {
     if at <= o.len() {
         io::write_all(STDOUT_FILENO, &o[0..at]);
     }
@@ -95,4 +95,9 @@ pub fn numbered(o: &mut [u8; 65536], at: usize, s: &[u8], n: u64) -> usize {
     let a = text(o, at, s);
     let b = decimal(o, a, n, 1);
     put(o, b, b'\n')
+}
+
+// What the buffer still holds, at the end.
+pub fn finish(o: &[u8; 65536], at: usize) {
+    flush(o, at);
 }
