@@ -1,12 +1,19 @@
 // One call of the controller, and the lines that say what it answered, sent and entered.
 ghost use Prim.Native.Nat.{_≤_};
 use crate::print;
+use crate::print::Out;
+use crate::tables::Temperatures;
+use crate::tables::Voltages;
+use crate::words::Bytes;
 use controller::Answer;
 use controller::Controller;
 use controller::Start;
 use controller::Ticked;
 use readings::Readings;
 use states::State;
+
+// The buffer of which each tick and write is lent the first bytes.
+pub type Buffer = [u8; 4096];
 
 // The controller in use, the ticks that it has accepted, and the free place of the output.
 pub struct Unit {
@@ -54,7 +61,7 @@ fn code(state: State) -> u8 {
     }
 }
 
-fn name(o: &mut [u8; 65536], at: usize, code: u8) -> usize {
+fn name(o: &mut Out, at: usize, code: u8) -> usize {
     match code {
         0 => print::text(o, at, b"Idle"),
         1 => print::text(o, at, b"Offered"),
@@ -89,7 +96,7 @@ impl Standing {
     }
 
     // The line of a standing that is another than it was before.
-    pub fn print_if_new(self, before: Standing, o: &mut [u8; 65536], at: usize) -> usize {
+    pub fn print_if_new(self, before: Standing, o: &mut Out, at: usize) -> usize {
         if self.same(before) {
             return at;
         }
@@ -130,7 +137,7 @@ fn written(c: Controller, buf: &mut [u8], n: usize) -> settings::Written {
 }
 
 // A tick's time, 50 ms a tick.
-fn print_time(tick: u64, o: &mut [u8; 65536], at: usize) -> usize {
+fn print_time(tick: u64, o: &mut Out, at: usize) -> usize {
     let a = print::put(o, at, b'(');
     let b = print::decimal(o, a, tick / 20, 10);
     let c = print::put(o, b, b'.');
@@ -139,7 +146,7 @@ fn print_time(tick: u64, o: &mut [u8; 65536], at: usize) -> usize {
 }
 
 // The identifier of a frame of a buffer.
-fn print_identifier(buf: &[u8; 4096], i: usize, o: &mut [u8; 65536], at: usize) -> usize
+fn print_identifier(buf: &Buffer, i: usize, o: &mut Out, at: usize) -> usize
     requires { ⌜ i ≤ 4096 ⌝ }
 {
     let a = print::byte(o, at, buffers::byte_at(buf, i + 3));
@@ -149,7 +156,7 @@ fn print_identifier(buf: &[u8; 4096], i: usize, o: &mut [u8; 65536], at: usize) 
 }
 
 // One frame of a buffer, as candump writes it.
-fn print_frame(buf: &[u8; 4096], i: usize, tick: u64, o: &mut [u8; 65536], at: usize) -> usize
+fn print_frame(buf: &Buffer, i: usize, tick: u64, o: &mut Out, at: usize) -> usize
     requires { ⌜ i ≤ 4096 ⌝ }
 {
     let a = print_time(tick, o, at);
@@ -160,7 +167,7 @@ fn print_frame(buf: &[u8; 4096], i: usize, tick: u64, o: &mut [u8; 65536], at: u
 }
 
 // The frames in the first n bytes of a buffer.
-fn print_frames(buf: &[u8; 4096], n: usize, tick: u64, o: &mut [u8; 65536], at: usize) -> usize {
+fn print_frames(buf: &Buffer, n: usize, tick: u64, o: &mut Out, at: usize) -> usize {
     let mut a = at;
     let mut i = 0;
     while i < 4096 {
@@ -178,7 +185,7 @@ fn next(n: u64) -> u64 {
 }
 
 impl Unit {
-    pub fn frame(self, id: u32, bytes: &[u8; 2048], n: usize, o: &mut [u8; 65536]) -> Unit {
+    pub fn frame(self, id: u32, bytes: &Bytes, n: usize, o: &mut Out) -> Unit {
         let c = self.controller;
         let before = Standing::of(c);
         let r = answered(c, id, bytes, n);
@@ -192,14 +199,7 @@ impl Unit {
         }
     }
 
-    fn tick(
-        self,
-        l: Lent,
-        v: &[u16; 512],
-        t: &[i16; 512],
-        buf: &mut [u8; 4096],
-        o: &mut [u8; 65536],
-    ) -> Unit {
+    fn tick(self, l: Lent, v: &Voltages, t: &Temperatures, buf: &mut Buffer, o: &mut Out) -> Unit {
         let c = self.controller;
         let before = Standing::of(c);
         let k = ticked(c, l, v, t, buf);
@@ -225,10 +225,10 @@ impl Unit {
         self,
         n: u64,
         l: Lent,
-        v: &[u16; 512],
-        t: &[i16; 512],
-        buf: &mut [u8; 4096],
-        o: &mut [u8; 65536],
+        v: &Voltages,
+        t: &Temperatures,
+        buf: &mut Buffer,
+        o: &mut Out,
     ) -> Unit {
         let mut u = self;
         let mut left = n;
@@ -239,7 +239,7 @@ impl Unit {
         u
     }
 
-    pub fn write(self, n: usize, buf: &mut [u8; 4096], o: &mut [u8; 65536]) -> usize {
+    pub fn write(self, n: usize, buf: &mut Buffer, o: &mut Out) -> usize {
         let w = written(self.controller, buf, n);
         let mut a = print::text(o, self.out, b"write ");
         a = print::decimal(o, a, w.number as u64, 1);

@@ -1,4 +1,5 @@
 // The clock of a candump log: which ticks are due before a line of it.
+use crate::lines::Text;
 use crate::words;
 use crate::words::Word;
 
@@ -34,7 +35,7 @@ fn microseconds(s: u64, u: u64) -> u64 {
 }
 
 // (SECONDS.MICROS), 1 to 12 digits and six.
-pub fn read_time(line: &[u8; 4096], used: usize, w: Word) -> Time {
+pub fn read_time(line: &Text, used: usize, w: Word) -> Time {
     let s = words::read_digits(line, used, words::after(w.from), false);
     let u = words::read_digits(line, used, words::after(s.at), false);
     let opens = words::byte_at(line, used, w.from) == b'(';

@@ -1,5 +1,8 @@
 // The input cut into lines. A line is kept up to its 4096th character; of a longer one only what it begins with matters.
 
+// The characters of a line: the most that one may have.
+pub type Text = [u8; 4096];
+
 // What is known of the line that is being read: its characters so far, whether there were more than are kept, whether one of them
 // is no gap, and whether the first such is '#'.
 pub struct Line {
@@ -25,7 +28,7 @@ impl Line {
     }
 
     // One character more.
-    pub fn with(self, kept: &mut [u8; 4096], b: u8) -> Line {
+    pub fn with(self, kept: &mut Text, b: u8) -> Line {
         let mut next = self;
         let at = self.used;
         if at < 4096 {

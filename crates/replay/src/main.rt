@@ -1,15 +1,21 @@
 // Replays a list of calls: reads them on standard input, a line each, and writes what the controller answers, sends and enters.
 mod calls;
 mod clock;
+mod forms;
 mod lines;
 mod print;
 mod script;
 mod tables;
 mod words;
 
+use calls::Buffer;
 use libc::STDIN_FILENO;
 use lines::Line;
+use lines::Text;
+use print::Out;
 use script::Run;
+use tables::Temperatures;
+use tables::Voltages;
 
 // A run and the line that it is in, and whether there may be more input.
 struct Place {
@@ -26,11 +32,11 @@ fn next(n: u64) -> u64 {
 fn ended(
     r: Run,
     l: Line,
-    kept: &[u8; 4096],
-    v: &mut [u16; 512],
-    t: &mut [i16; 512],
-    buf: &mut [u8; 4096],
-    o: &mut [u8; 65536],
+    kept: &Text,
+    v: &mut Voltages,
+    t: &mut Temperatures,
+    buf: &mut Buffer,
+    o: &mut Out,
 ) -> Run {
     let mut s = r;
     s.number = next(r.number);
@@ -47,11 +53,11 @@ fn ended(
 fn chunk(
     p: Place,
     input: &mut [u8; 65536],
-    kept: &mut [u8; 4096],
-    v: &mut [u16; 512],
-    t: &mut [i16; 512],
-    buf: &mut [u8; 4096],
-    o: &mut [u8; 65536],
+    kept: &mut Text,
+    v: &mut Voltages,
+    t: &mut Temperatures,
+    buf: &mut Buffer,
+    o: &mut Out,
 ) -> Place {
     let got = libc::read(STDIN_FILENO, input);
     let n = io::count(got, input);

@@ -1,6 +1,9 @@
 // Output by way of a buffer, which is written out where it is full. Each function takes the place that is free and returns the next.
 use libc::STDOUT_FILENO;
 
+// The output that waits to be written.
+pub type Out = [u8; 65536];
+
 // The first `at` bytes of the buffer, written out.
 fn flush(o: &[u8], at: usize) {
     if at <= o.len() {
@@ -8,7 +11,7 @@ fn flush(o: &[u8], at: usize) {
     }
 }
 
-pub fn put(o: &mut [u8; 65536], at: usize, b: u8) -> usize {
+pub fn put(o: &mut Out, at: usize, b: u8) -> usize {
     if at < 65536 {
         o[at] = b;
         return at + 1;
@@ -18,7 +21,7 @@ pub fn put(o: &mut [u8; 65536], at: usize, b: u8) -> usize {
     1
 }
 
-pub fn text(o: &mut [u8; 65536], at: usize, s: &[u8]) -> usize {
+pub fn text(o: &mut Out, at: usize, s: &[u8]) -> usize {
     let n = s.len();
     let mut a = at;
     let mut i = 0;
@@ -30,7 +33,7 @@ pub fn text(o: &mut [u8; 65536], at: usize, s: &[u8]) -> usize {
 }
 
 // A number in decimal, with zeros before it up to a width.
-pub fn decimal(o: &mut [u8; 65536], at: usize, n: u64, width: usize) -> usize {
+pub fn decimal(o: &mut Out, at: usize, n: u64, width: usize) -> usize {
     let mut digits = [0u8; 20];
     let k = io::decimal(n, &mut digits);
     let mut a = at;
@@ -49,7 +52,7 @@ pub fn decimal(o: &mut [u8; 65536], at: usize, n: u64, width: usize) -> usize {
 }
 
 // The first k of the digits.
-fn written(o: &mut [u8; 65536], at: usize, digits: [u8; 20], k: usize) -> usize {
+fn written(o: &mut Out, at: usize, digits: [u8; 20], k: usize) -> usize {
     let mut a = at;
     let mut i = 0;
     while i < 20 {
@@ -70,13 +73,13 @@ fn digit(n: u8) -> u8 {
 }
 
 // A byte as two hex digits.
-pub fn byte(o: &mut [u8; 65536], at: usize, b: u8) -> usize {
+pub fn byte(o: &mut Out, at: usize, b: u8) -> usize {
     let a = put(o, at, digit(b / 16));
     put(o, a, digit(b % 16))
 }
 
 // The bytes of a slice from a place up to another, in hex; those past its end are left out.
-pub fn bytes(o: &mut [u8; 65536], at: usize, s: &[u8], from: usize, to: usize) -> usize {
+pub fn bytes(o: &mut Out, at: usize, s: &[u8], from: usize, to: usize) -> usize {
     let n = s.len();
     let mut a = at;
     let mut i = from;
@@ -91,13 +94,13 @@ pub fn bytes(o: &mut [u8; 65536], at: usize, s: &[u8], from: usize, to: usize) -
 }
 
 // A word, a number and the end of the line.
-pub fn numbered(o: &mut [u8; 65536], at: usize, s: &[u8], n: u64) -> usize {
+pub fn numbered(o: &mut Out, at: usize, s: &[u8], n: u64) -> usize {
     let a = text(o, at, s);
     let b = decimal(o, a, n, 1);
     put(o, b, b'\n')
 }
 
 // What the buffer still holds, at the end.
-pub fn finish(o: &[u8; 65536], at: usize) {
+pub fn finish(o: &Out, at: usize) {
     flush(o, at);
 }

@@ -1,5 +1,6 @@
 // One line of a script, carried out.
 use crate::calls;
+use crate::calls::Buffer;
 use crate::calls::Lent;
 use crate::calls::Standing;
 use crate::calls::Unit;
@@ -7,10 +8,18 @@ use crate::clock;
 use crate::clock::Clock;
 use crate::clock::Due;
 use crate::clock::Time;
+use crate::forms;
+use crate::forms::Kind;
+use crate::forms::Received;
+use crate::lines::Text;
 use crate::print;
+use crate::print::Out;
 use crate::tables;
 use crate::tables::Table;
+use crate::tables::Temperatures;
+use crate::tables::Voltages;
 use crate::words;
+use crate::words::Bytes;
 use crate::words::Hex;
 use crate::words::Word;
 use controller::Controller;
@@ -34,12 +43,6 @@ pub struct Run {
     pub clock: Clock,
     pub number: u64,
     pub out: usize,
-}
-
-// A received frame in a line: its identifier and the number of its data bytes.
-enum Received {
-    Frame(u32, usize),
-    Not,
 }
 
 // Readings `1 192 50 0 3000 1000 0 0 0 0`, one voltage, one temperature, a buffer of 117.
@@ -69,51 +72,6 @@ fn first_lent() -> Lent {
 
 fn place(x: u64) -> usize {
     if x <= 4096 { x as usize } else { 0 }
-}
-
-fn is_one(line: &[u8; 4096], used: usize, w: Word, b: u8) -> bool {
-    (words::byte_at(line, used, w.from) == b) & (words::after(w.from) == w.to)
-}
-
-// The bytes of a settings record, or `-`.
-fn record(line: &[u8; 4096], used: usize, w: Word, bytes: &mut [u8; 2048]) -> Hex {
-    if w.is_empty() {
-        return Hex::Not;
-    }
-    if !words::is_end(line, used, w.to) {
-        return Hex::Not;
-    }
-    if is_one(line, used, w, b'-') {
-        return Hex::Bytes(0);
-    }
-    words::read_hex(line, used, w.from, w.to, bytes)
-}
-
-fn identified(x: u64, n: usize) -> Received {
-    if 64 < n {
-        return Received::Not;
-    }
-    if x <= 0xffff_ffff {
-        Received::Frame(x as u32, n)
-    } else {
-        Received::Not
-    }
-}
-
-// ID#DATA, the last word of its line.
-fn read_frame(line: &[u8; 4096], used: usize, w: Word, bytes: &mut [u8; 2048]) -> Received {
-    let d = words::read_digits(line, used, w.from, true);
-    let mark = words::byte_at(line, used, d.at) == b'#';
-    let ends = words::is_end(line, used, w.to);
-    let some = (1 <= d.count) & (d.count <= 8);
-    if mark & (ends & some) {
-        match words::read_hex(line, used, words::after(d.at), w.to, bytes) {
-            Hex::Bytes(n) => identified(d.value, n),
-            Hex::Not => Received::Not,
-        }
-    } else {
-        Received::Not
-    }
 }
 
 impl Run {
@@ -156,12 +114,12 @@ impl Run {
         }
     }
 
-    pub fn unreadable(self, o: &mut [u8; 65536]) -> Run {
+    pub fn unreadable(self, o: &mut Out) -> Run {
         let at = print::numbered(o, self.out, b"unreadable line ", self.number);
         self.with_out(at)
     }
 
-    fn absent(self, o: &mut [u8; 65536]) -> Run {
+    fn absent(self, o: &mut Out) -> Run {
         let at = print::text(o, self.out, b"no controller\n");
         self.with_out(at)
     }
@@ -175,7 +133,7 @@ impl Run {
     }
 
     // A settings record of so many bytes.
-    fn started(self, bytes: &[u8; 2048], n: usize, o: &mut [u8; 65536]) -> Run {
+    fn started(self, bytes: &Bytes, n: usize, o: &mut Out) -> Run {
         match calls::started(bytes, n) {
             Start::Made(c) => {
                 let a = print::numbered(o, self.out, b"settings ", 0);
@@ -194,16 +152,16 @@ impl Run {
         }
     }
 
-    fn settings(self, line: &[u8; 4096], used: usize, at: usize, o: &mut [u8; 65536]) -> Run {
+    fn settings(self, line: &Text, used: usize, at: usize, o: &mut Out) -> Run {
         let mut bytes = [0u8; 2048];
         let w = words::next_word(line, used, at);
-        match record(line, used, w, &mut bytes) {
+        match forms::record(line, used, w, &mut bytes) {
             Hex::Bytes(n) => self.started(&bytes, n, o),
             Hex::Not => self.unreadable(o),
         }
     }
 
-    fn readings(self, line: &[u8; 4096], used: usize, at: usize, o: &mut [u8; 65536]) -> Run {
+    fn readings(self, line: &Text, used: usize, at: usize, o: &mut Out) -> Run {
         let k = tables::read_readings(line, used, at);
         if k.good {
             let x = k.readings;
@@ -222,14 +180,7 @@ impl Run {
         }
     }
 
-    fn voltages(
-        self,
-        line: &[u8; 4096],
-        used: usize,
-        at: usize,
-        v: &mut [u16; 512],
-        o: &mut [u8; 65536],
-    ) -> Run {
+    fn voltages(self, line: &Text, used: usize, at: usize, v: &mut Voltages, o: &mut Out) -> Run {
         match tables::count_numbers(line, used, at, false) {
             Table::Of(n) => {
                 tables::keep_voltages(line, used, at, n, v);
@@ -243,11 +194,11 @@ impl Run {
 
     fn temperatures(
         self,
-        line: &[u8; 4096],
+        line: &Text,
         used: usize,
         at: usize,
-        t: &mut [i16; 512],
-        o: &mut [u8; 65536],
+        t: &mut Temperatures,
+        o: &mut Out,
     ) -> Run {
         match tables::count_numbers(line, used, at, true) {
             Table::Of(n) => {
@@ -260,7 +211,7 @@ impl Run {
         }
     }
 
-    fn buffer(self, line: &[u8; 4096], used: usize, at: usize, o: &mut [u8; 65536]) -> Run {
+    fn buffer(self, line: &Text, used: usize, at: usize, o: &mut Out) -> Run {
         let f = tables::only(line, used, at, 4096);
         if f.good {
             let mut r = self;
@@ -276,10 +227,10 @@ impl Run {
     fn run_ticks(
         self,
         n: u64,
-        v: &[u16; 512],
-        t: &[i16; 512],
-        buf: &mut [u8; 4096],
-        o: &mut [u8; 65536],
+        v: &Voltages,
+        t: &Temperatures,
+        buf: &mut Buffer,
+        o: &mut Out,
     ) -> Run {
         let held = self.held;
         match held {
@@ -294,13 +245,13 @@ impl Run {
 
     fn tick(
         self,
-        line: &[u8; 4096],
+        line: &Text,
         used: usize,
         at: usize,
-        v: &[u16; 512],
-        t: &[i16; 512],
-        buf: &mut [u8; 4096],
-        o: &mut [u8; 65536],
+        v: &Voltages,
+        t: &Temperatures,
+        buf: &mut Buffer,
+        o: &mut Out,
     ) -> Run {
         let f = tables::one_or(line, used, at, 10_000_000);
         if !f.good {
@@ -313,14 +264,7 @@ impl Run {
         }
     }
 
-    fn write(
-        self,
-        line: &[u8; 4096],
-        used: usize,
-        at: usize,
-        buf: &mut [u8; 4096],
-        o: &mut [u8; 65536],
-    ) -> Run {
+    fn write(self, line: &Text, used: usize, at: usize, buf: &mut Buffer, o: &mut Out) -> Run {
         let f = tables::only(line, used, at, 4096);
         if !f.good {
             return self.unreadable(o);
@@ -337,7 +281,7 @@ impl Run {
     }
 
     // A frame that has been read.
-    fn hand(self, id: u32, bytes: &[u8; 2048], n: usize, o: &mut [u8; 65536]) -> Run {
+    fn hand(self, id: u32, bytes: &Bytes, n: usize, o: &mut Out) -> Run {
         let held = self.held;
         match held {
             Held::Made(c) => {
@@ -348,9 +292,9 @@ impl Run {
         }
     }
 
-    fn frame(self, line: &[u8; 4096], used: usize, w: Word, o: &mut [u8; 65536]) -> Run {
+    fn frame(self, line: &Text, used: usize, w: Word, o: &mut Out) -> Run {
         let mut bytes = [0u8; 2048];
-        match read_frame(line, used, w, &mut bytes) {
+        match forms::read_frame(line, used, w, &mut bytes) {
             Received::Frame(id, n) => self.hand(id, &bytes, n, o),
             Received::Not => self.unreadable(o),
         }
@@ -359,18 +303,18 @@ impl Run {
     // A frame of a log, at its time: first the ticks that are due.
     fn log(
         self,
-        line: &[u8; 4096],
+        line: &Text,
         used: usize,
         w: Word,
-        v: &[u16; 512],
-        t: &[i16; 512],
-        buf: &mut [u8; 4096],
-        o: &mut [u8; 65536],
+        v: &Voltages,
+        t: &Temperatures,
+        buf: &mut Buffer,
+        o: &mut Out,
     ) -> Run {
         let mut bytes = [0u8; 2048];
         let face = words::next_word(line, used, w.to);
         let last = words::next_word(line, used, face.to);
-        let Received::Frame(id, n) = read_frame(line, used, last, &mut bytes) else {
+        let Received::Frame(id, n) = forms::read_frame(line, used, last, &mut bytes) else {
             return self.unreadable(o);
         };
         let Time::At(now) = clock::read_time(line, used, w) else {
@@ -391,40 +335,25 @@ impl Run {
     // The line, by its first word.
     pub fn line(
         self,
-        line: &[u8; 4096],
+        line: &Text,
         used: usize,
-        v: &mut [u16; 512],
-        t: &mut [i16; 512],
-        buf: &mut [u8; 4096],
-        o: &mut [u8; 65536],
+        v: &mut Voltages,
+        t: &mut Temperatures,
+        buf: &mut Buffer,
+        o: &mut Out,
     ) -> Run {
         let w = words::next_word(line, used, 0);
         let at = w.to;
-        let first = words::byte_at(line, used, w.from);
-        if first == b'(' {
-            return self.log(line, used, w, v, t, buf, o);
+        match forms::kind_of(line, used, w) {
+            Kind::Settings => self.settings(line, used, at, o),
+            Kind::Readings => self.readings(line, used, at, o),
+            Kind::Voltages => self.voltages(line, used, at, v, o),
+            Kind::Temperatures => self.temperatures(line, used, at, t, o),
+            Kind::Buffer => self.buffer(line, used, at, o),
+            Kind::Tick => self.tick(line, used, at, v, t, buf, o),
+            Kind::Frame => self.frame(line, used, w, o),
+            Kind::Log => self.log(line, used, w, v, t, buf, o),
+            Kind::Write => self.write(line, used, at, buf, o),
         }
-        if words::is_word(line, used, w, b"tick") {
-            return self.tick(line, used, at, v, t, buf, o);
-        }
-        if words::is_word(line, used, w, b"readings") {
-            return self.readings(line, used, at, o);
-        }
-        if words::is_word(line, used, w, b"voltages") {
-            return self.voltages(line, used, at, v, o);
-        }
-        if words::is_word(line, used, w, b"temperatures") {
-            return self.temperatures(line, used, at, t, o);
-        }
-        if words::is_word(line, used, w, b"buffer") {
-            return self.buffer(line, used, at, o);
-        }
-        if words::is_word(line, used, w, b"settings") {
-            return self.settings(line, used, at, o);
-        }
-        if words::is_word(line, used, w, b"write") {
-            return self.write(line, used, at, buf, o);
-        }
-        self.frame(line, used, w, o)
     }
 }

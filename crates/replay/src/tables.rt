@@ -1,9 +1,15 @@
 // The readings and the cell tables that a line gives. Nothing is kept of a line that cannot be read.
+use crate::lines::Text;
 use crate::words;
 use crate::words::Fit;
 use readings::Marks;
 use readings::Readings;
 use units::TenthVolts;
+
+// The cell tables: more than a tick takes, so that it can be seen to refuse.
+pub type Voltages = [u16; 512];
+
+pub type Temperatures = [i16; 512];
 
 // How many entries a table has then, or a line that cannot be read.
 pub enum Table {
@@ -32,7 +38,7 @@ fn wide(x: u64) -> u16 {
 }
 
 // The next number, at most so much.
-fn next_part(line: &[u8; 4096], used: usize, at: usize, most: u64) -> Part {
+fn next_part(line: &Text, used: usize, at: usize, most: u64) -> Part {
     let w = words::next_word(line, used, at);
     let n = words::read_number(line, used, w);
     let f = n.up_to(most);
@@ -44,7 +50,7 @@ fn next_part(line: &[u8; 4096], used: usize, at: usize, most: u64) -> Part {
 }
 
 // Ten numbers and no more.
-pub fn read_readings(line: &[u8; 4096], used: usize, at: usize) -> ReadingsRead {
+pub fn read_readings(line: &Text, used: usize, at: usize) -> ReadingsRead {
     let one = next_part(line, used, at, 255);
     let two = next_part(line, used, one.at, 255);
     let soc = next_part(line, used, two.at, 255);
@@ -82,7 +88,7 @@ pub fn read_readings(line: &[u8; 4096], used: usize, at: usize) -> ReadingsRead 
 }
 
 // How many numbers there are from a place on: at most 512, each a 16-bit number, signed or not.
-pub fn count_numbers(line: &[u8; 4096], used: usize, from: usize, signed: bool) -> Table {
+pub fn count_numbers(line: &Text, used: usize, from: usize, signed: bool) -> Table {
     let mut n = 0;
     let mut at = from;
     while n <= 512 {
@@ -103,7 +109,7 @@ pub fn count_numbers(line: &[u8; 4096], used: usize, from: usize, signed: bool) 
     Table::Not
 }
 
-pub fn keep_voltages(line: &[u8; 4096], used: usize, from: usize, n: usize, v: &mut [u16; 512]) {
+pub fn keep_voltages(line: &Text, used: usize, from: usize, n: usize, v: &mut Voltages) {
     let mut at = from;
     let mut i = 0;
     while i < 512 {
@@ -117,13 +123,7 @@ pub fn keep_voltages(line: &[u8; 4096], used: usize, from: usize, n: usize, v: &
     }
 }
 
-pub fn keep_temperatures(
-    line: &[u8; 4096],
-    used: usize,
-    from: usize,
-    n: usize,
-    t: &mut [i16; 512],
-) {
+pub fn keep_temperatures(line: &Text, used: usize, from: usize, n: usize, t: &mut Temperatures) {
     let mut at = from;
     let mut i = 0;
     while i < 512 {
@@ -141,7 +141,7 @@ pub fn keep_temperatures(
 }
 
 // The one number of a line.
-pub fn only(line: &[u8; 4096], used: usize, at: usize, most: u64) -> Fit {
+pub fn only(line: &Text, used: usize, at: usize, most: u64) -> Fit {
     let p = next_part(line, used, at, most);
     let ends = words::is_end(line, used, p.at);
     Fit {
@@ -151,7 +151,7 @@ pub fn only(line: &[u8; 4096], used: usize, at: usize, most: u64) -> Fit {
 }
 
 // The same, or 1 where there is none.
-pub fn one_or(line: &[u8; 4096], used: usize, at: usize, most: u64) -> Fit {
+pub fn one_or(line: &Text, used: usize, at: usize, most: u64) -> Fit {
     if words::is_end(line, used, at) {
         Fit {
             good: true,

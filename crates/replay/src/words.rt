@@ -1,6 +1,10 @@
 // The words of a line, and the numbers that they are. A place past the line's end reads as its newline, so that every function here
 // takes any place.
 use crate::lines;
+use crate::lines::Text;
+
+// As many bytes as a line can hold in hex.
+pub type Bytes = [u8; 2048];
 
 // The part of a line from a place up to another; empty where there is no word.
 pub struct Word {
@@ -39,7 +43,7 @@ pub enum Hex {
     Not,
 }
 
-pub fn byte_at(line: &[u8; 4096], used: usize, at: usize) -> u8 {
+pub fn byte_at(line: &Text, used: usize, at: usize) -> u8 {
     if at < used {
         if at < 4096 {
             return line[at];
@@ -54,7 +58,7 @@ pub fn after(at: usize) -> usize {
 }
 
 // The first place from one on that is no gap.
-fn skip(line: &[u8; 4096], used: usize, from: usize) -> usize {
+fn skip(line: &Text, used: usize, from: usize) -> usize {
     let mut at = from;
     while at < 4096 {
         let b = byte_at(line, used, at);
@@ -67,7 +71,7 @@ fn skip(line: &[u8; 4096], used: usize, from: usize) -> usize {
 }
 
 // The first place from one on where no word goes on.
-fn end(line: &[u8; 4096], used: usize, from: usize) -> usize {
+fn end(line: &Text, used: usize, from: usize) -> usize {
     let mut at = from;
     while at < 4096 {
         let b = byte_at(line, used, at);
@@ -83,7 +87,7 @@ fn end(line: &[u8; 4096], used: usize, from: usize) -> usize {
 }
 
 // The first word from a place on.
-pub fn next_word(line: &[u8; 4096], used: usize, from: usize) -> Word {
+pub fn next_word(line: &Text, used: usize, from: usize) -> Word {
     let at = skip(line, used, from);
     Word {
         from: at,
@@ -98,13 +102,13 @@ impl Word {
 }
 
 // No word from a place on.
-pub fn is_end(line: &[u8; 4096], used: usize, from: usize) -> bool {
+pub fn is_end(line: &Text, used: usize, from: usize) -> bool {
     let w = next_word(line, used, from);
     w.is_empty()
 }
 
 // Whether a word is this one.
-pub fn is_word(line: &[u8; 4096], used: usize, w: Word, s: &[u8]) -> bool {
+pub fn is_word(line: &Text, used: usize, w: Word, s: &[u8]) -> bool {
     let n = s.len();
     let mut at = w.from;
     let mut i = 0;
@@ -149,7 +153,7 @@ impl Digits {
 }
 
 // The digits from a place on, decimal or hex.
-pub fn read_digits(line: &[u8; 4096], used: usize, from: usize, sixteen: bool) -> Digits {
+pub fn read_digits(line: &Text, used: usize, from: usize, sixteen: bool) -> Digits {
     let base = if sixteen { 16 } else { 10 };
     let mut d = Digits {
         count: 0,
@@ -169,7 +173,7 @@ pub fn read_digits(line: &[u8; 4096], used: usize, from: usize, sixteen: bool) -
 }
 
 // The word as a decimal number with a sign or none.
-pub fn read_number(line: &[u8; 4096], used: usize, w: Word) -> Number {
+pub fn read_number(line: &Text, used: usize, w: Word) -> Number {
     let from = w.from;
     let sign = byte_at(line, used, from);
     let minus = sign == b'-';
@@ -242,13 +246,7 @@ fn negative(x: u64) -> i16 {
 }
 
 // The bytes in hex from a place up to another.
-pub fn read_hex(
-    line: &[u8; 4096],
-    used: usize,
-    from: usize,
-    to: usize,
-    out: &mut [u8; 2048],
-) -> Hex {
+pub fn read_hex(line: &Text, used: usize, from: usize, to: usize, out: &mut Bytes) -> Hex {
     let mut n = 0;
     let mut at = from;
     while at < 4096 {
