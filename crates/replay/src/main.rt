@@ -1,0 +1,108 @@
+// Replays a list of calls: reads them on standard input, a line each, and writes what the controller answers, sends and enters.
+mod calls;
+mod clock;
+mod forms;
+mod lines;
+mod print;
+mod script;
+mod tables;
+mod words;
+
+use calls::Buffer;
+use libc::STDIN_FILENO;
+use lines::Line;
+use lines::Text;
+use print::Out;
+use script::Run;
+use tables::Temperatures;
+use tables::Voltages;
+
+// A run and the line that it is in, and whether there may be more input.
+struct Place {
+    run: Run,
+    line: Line,
+    more: bool,
+}
+
+fn next(n: u64) -> u64 {
+    if n < u64::MAX { n + 1 } else { n }
+}
+
+// The end of a line.
+fn ended(
+    r: Run,
+    l: Line,
+    kept: &Text,
+    v: &mut Voltages,
+    t: &mut Temperatures,
+    buf: &mut Buffer,
+    o: &mut Out,
+) -> Run {
+    let mut s = r;
+    s.number = next(r.number);
+    if l.is_ignored() {
+        return s;
+    }
+    if l.long {
+        return s.unreadable(o);
+    }
+    s.line(kept, l.used, v, t, buf, o)
+}
+
+// One read of the input.
+fn chunk(
+    p: Place,
+    input: &mut [u8; 65536],
+    kept: &mut Text,
+    v: &mut Voltages,
+    t: &mut Temperatures,
+    buf: &mut Buffer,
+    o: &mut Out,
+) -> Place {
+    let got = libc::read(STDIN_FILENO, input);
+    let n = io::count(got, input);
+    let mut r = p.run;
+    let mut l = p.line;
+    let mut i = 0;
+    while i < n {
+        let b = input[i];
+        if b == b'\n' {
+            r = ended(r, l, kept, v, t, buf, o);
+            l = Line::start();
+        } else {
+            l = l.with(kept, b);
+        }
+        i += 1;
+    }
+    Place {
+        run: r,
+        line: l,
+        more: 0 < n,
+    }
+}
+
+fn main() {
+    let mut input = [0u8; 65536];
+    let mut kept = [0u8; 4096];
+    let mut v = [0u16; 512];
+    let mut t = [0i16; 512];
+    let mut buf = [0u8; 4096];
+    let mut o = [0u8; 65536];
+    v[0] = 330;
+    t[0] = 70;
+    let mut p = Place {
+        run: Run::start(),
+        line: Line::start(),
+        more: true,
+    };
+    let mut turns = u64::MAX;
+    while 0 < turns {
+        if !p.more {
+            break;
+        }
+        p = chunk(p, &mut input, &mut kept, &mut v, &mut t, &mut buf, &mut o);
+        turns -= 1;
+    }
+    let r = ended(p.run, p.line, &kept, &mut v, &mut t, &mut buf, &mut o);
+    print::finish(&o, r.out);
+}
