@@ -1,14 +1,8 @@
+-- `replay::chunk` is safe and ends: the bytes that are left fall, and no more were read than the array holds. Assumes nothing.
 use borrow.Author.Needs.{needs}
 use Prim.Native.Nat.{_≤_, _-_}
 use Rattle.replay.proofs.chunk.Statement.{statement}
 use Rattle.replay.proofs.chunk.Tie as tie
-use Rattle.replay.proofs.chunk.Reads as reads
-use Rattle.replay.proofs.chunk.Lts as lts
-use Rattle.io.proofs.count.Reads as count-reads
-use Rattle.libc.proofs.read.Reads as read-reads
-use Rattle.replay.proofs.ended.Reads as ended-reads
-use Rattle.replay.proofs.lines.Line.start.Reads as start-reads
-use Rattle.replay.proofs.lines.Line.with.Reads as with-reads
 
 abbrev Inv-loop : tie.InvT-loop
 Inv-loop input kept₀ v₀ t₀ buf₀ o₀ got n r₀ l₀ i₀ kept v t buf o r l i = n ≤ 65536
@@ -16,47 +10,36 @@ Inv-loop input kept₀ v₀ t₀ buf₀ o₀ got n r₀ l₀ i₀ kept v t buf o
 abbrev μ-loop : tie.MeasureT-loop
 μ-loop input kept₀ v₀ t₀ buf₀ o₀ got n r₀ l₀ i₀ kept v t buf o r l i = n - i
 
--- src/main.rt:56:9
 read-requires : tie.Need-read-requires Inv-loop μ-loop
 read-requires c κs = search needs
 
--- src/main.rt:57:9
 count-requires : tie.Need-count-requires Inv-loop μ-loop
 count-requires c κs = search needs
 
--- src/main.rt:61:5
 loop-holds : tie.Need-loop-holds Inv-loop μ-loop
 loop-holds c = search needs
 
--- src/main.rt:62:17
 element-copy-out-b : tie.Need-element-copy-out-b Inv-loop μ-loop
 element-copy-out-b c = search needs
 
--- src/main.rt:64:13
 ended-requires : tie.Need-ended-requires Inv-loop μ-loop
 ended-requires c κs = search needs
 
--- src/main.rt:65:13
 start-requires : tie.Need-start-requires Inv-loop μ-loop
 start-requires c κs = search needs
 
--- src/main.rt:67:13
 with-requires : tie.Need-with-requires Inv-loop μ-loop
 with-requires c κs = search needs
 
--- src/main.rt:69:9
 add-i : tie.Need-add-i Inv-loop μ-loop
 add-i c = search needs
 
--- src/main.rt:61:5
 loop-less : tie.Need-loop-less Inv-loop μ-loop
 loop-less c = search needs
 
--- src/main.rt:61:5
 loop-again : tie.Need-loop-again Inv-loop μ-loop
 loop-again c = search needs
 
--- src/main.rt:47:1
 returns : tie.Need-returns Inv-loop μ-loop
 returns c = search needs
 

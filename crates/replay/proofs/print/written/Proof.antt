@@ -1,10 +1,8 @@
+-- `replay::print::written` is safe and ends: the digits that are left fall. Assumes nothing.
 use borrow.Author.Needs.{needs}
-use Prim.Native.Nat.{_≤_, _-_}
+use Prim.Native.Nat.{_-_}
 use Rattle.replay.proofs.print.written.Statement.{statement}
 use Rattle.replay.proofs.print.written.Tie as tie
-use Rattle.replay.proofs.print.written.Reads as reads
-use Rattle.replay.proofs.print.written.Lts as lts
-use Rattle.replay.proofs.print.put.Reads as put-reads
 
 abbrev Inv-loop : tie.InvT-loop
 Inv-loop o₀ at k digits a₀ i₀ o a i = Unit {0}
@@ -12,35 +10,27 @@ Inv-loop o₀ at k digits a₀ i₀ o a i = Unit {0}
 abbrev μ-loop : tie.MeasureT-loop
 μ-loop o₀ at k digits a₀ i₀ o a i = 20 - i
 
--- src/print.rt:55:5
 loop-holds : tie.Need-loop-holds Inv-loop μ-loop
 loop-holds c = search needs
 
--- src/print.rt:59:23
 array-read-put : tie.Need-array-read-put Inv-loop μ-loop
 array-read-put c = search needs
 
--- src/print.rt:59:9
 put-requires : tie.Need-put-requires Inv-loop μ-loop
 put-requires c κs = search needs
 
--- src/print.rt:60:9
 add-i : tie.Need-add-i Inv-loop μ-loop
 add-i c = search needs
 
--- src/print.rt:55:5
 loop-less : tie.Need-loop-less Inv-loop μ-loop
 loop-less c = search needs
 
--- src/print.rt:55:5
 loop-again : tie.Need-loop-again Inv-loop μ-loop
 loop-again c = search needs
 
--- src/print.rt:52:1
 returns : tie.Need-returns Inv-loop μ-loop
 returns c = search needs
 
--- src/print.rt:52:1
 returns-2 : tie.Need-returns-2 Inv-loop μ-loop
 returns-2 c = search needs
 

@@ -1,11 +1,11 @@
--- A number up to 32767 has its negation among the signed numbers of 16 bits.
-use Prim.Native.Nat.{ℕ, zero, suc, _≤_, _<_}
+-- `replay::words::negative` is safe: a number up to 32767 has its negation among the signed numbers of 16 bits. Assumes nothing.
+use Prim.Native.Nat.{ℕ, zero, suc, _<_}
 use native.Mathlib.Omega.{arith}
 use borrow.Author.Needs.{needs}
 use borrow.Author.Tests.{lt-ltb}
 use lib.IntN.{pos, _-ℤ_}
 use mir.Syntax.{w16}
-use mir.Val.{SFits, toZ}
+use mir.Val.{SFits}
 use Rattle.replay.proofs.words.negative.Statement.{statement}
 use Rattle.replay.proofs.words.negative.Tie as tie
 
