@@ -150,10 +150,10 @@ index-first k value (x ∷ xs) (suc i) h e =
 first-of : {value : ℕ} {xs : List ℕ} → In value xs → First 1 value (indexFrom 1 value xs) xs
 first-of {value} {xs} i = index-first 1 value xs (i .place) (i .within) (i .has)
 
--- The highest of a table that holds a cell: no cell is above it, and its index, from 1, is that of the first cell that has it.
+-- The index of the highest, from 1, is that of the first cell that has it (that no cell is above it is `none-above`).
 pub highest-first : (x : ℕ) (xs : List ℕ) → First 1 (highestOf (x ∷ xs)) (indexFrom 1 (highestOf (x ∷ xs)) (x ∷ xs)) (x ∷ xs)
 highest-first x xs = first-of (highest-in x xs)
 
--- The lowest likewise: no cell is below it, and its index is that of the first cell that has it.
+-- The index of the lowest likewise (that no cell is below it is `none-below`).
 pub lowest-first : (x : ℕ) (xs : List ℕ) → First 1 (lowestOf (x ∷ xs)) (indexFrom 1 (lowestOf (x ∷ xs)) (x ∷ xs)) (x ∷ xs)
 lowest-first x xs = first-of (lowest-in x xs)

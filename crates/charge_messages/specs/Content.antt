@@ -1,7 +1,7 @@
 -- Allowed content (01, "Numbers returned", 10): CIM 01 01 00; CVM 00 or AA; CRM 00, AA or FF; CCS byte 5 00 or 01; CST and CEM byte 3 00
 -- or AA; CMP any. The paper counts bytes from 1, a list from 0.
 use Prim.Native.Nat.{ℕ}
-use mathlib.Core.Bool.{Bool, true, false, cond, _&&_}
+use mathlib.Core.Bool.{Bool, true, false, cond, _&&_, _||_}
 use mathlib.Core.List.{List}
 use lib.Dec.{eqb}
 use lib.ListN.{getD}
@@ -48,7 +48,17 @@ contentOf charge.Ccs s = ccsOf (getD s 4 0)
 contentOf charge.Cst s = cstOf (getD s 2 0)
 contentOf charge.Cem s = cemOf (getD s 2 0)
 
--- the number of the answer: 0 where the content is allowed
+-- the content is allowed
+unfoldable pub allowedContent : Charge → List ℕ → Bool
+allowedContent charge.Cim s = eqb (getD s 0 0) 0x01 && (eqb (getD s 1 0) 0x01 && eqb (getD s 2 0) 0x00)
+allowedContent charge.Cvm s = eqb (getD s 0 0) 0xaa || eqb (getD s 0 0) 0x00
+allowedContent charge.Cmp s = true
+allowedContent charge.Crm s = eqb (getD s 0 0) 0xaa || (eqb (getD s 0 0) 0x00 || eqb (getD s 0 0) 0xff)
+allowedContent charge.Ccs s = eqb (getD s 4 0) 0x01 || eqb (getD s 4 0) 0x00
+allowedContent charge.Cst s = eqb (getD s 2 0) 0xaa || eqb (getD s 2 0) 0x00
+allowedContent charge.Cem s = eqb (getD s 2 0) 0xaa || eqb (getD s 2 0) 0x00
+
+-- the paper's number for each case of the answer: 0 where the content is allowed, else 10 (`content-number`, proofs/Numbers.antt)
 abbrev pub contentNumber : Content → ℕ
 contentNumber (Allowed m) = 0
 contentNumber (Refused n) = n

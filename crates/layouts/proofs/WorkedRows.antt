@@ -1,9 +1,11 @@
 -- Rows of 01, "Worked rows", marked P, that are about what ECR asks. Assumes nothing.
 use Prim.Native.Nat.{ℕ}
 use mathlib.Core.Path.{_≡_, refl}
+use mathlib.Core.Bool.{Bool}
+use Rattle.messages.specs.Identifier.{numberOf}
 use Rattle.settings.specs.declared.Settings.{Settings}
 use Rattle.cells.specs.declared.Cells.{Cells}
-use Rattle.layouts.specs.Layouts.{holdVoltage, rawRequest}
+use Rattle.layouts.specs.Layouts.{holdVoltage, rawRequest, eimOf, eemOf}
 
 -- maximum pack voltage 65535: 48 cells hold at 1704; 3 at 106
 module _ (x : Settings) (c : Cells) (pack : x .pack .0 ≡ 65535) where
@@ -23,3 +25,13 @@ raw-of-2000 = refl
 pub raw-of-12 : rawRequest 12 ≡ 3988
 unfolding rawRequest
 raw-of-12 = refl
+
+-- EIM from F4 to 56 is 182756F4, and EEM is 081E56F4
+module _ (x : Settings) (own : x .own ≡ 0xf4) where
+  pub eim-goes-out : (on : Bool) → eimOf x 0x56 on .id ≡ 0x1827_56f4
+  unfolding eimOf numberOf
+  eim-goes-out on = rw own
+
+  pub eem-goes-out : eemOf x 0x56 .id ≡ 0x081e_56f4
+  unfolding eemOf numberOf
+  eem-goes-out = rw own

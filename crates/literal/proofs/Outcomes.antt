@@ -19,7 +19,7 @@ use Rattle.outcomes.specs.Message.{outcomeOf, inIdle, inOffered, inUnverified, 
 use Rattle.outcomes.specs.Offer.{acceptedOf, stationMost}
 use Rattle.session.specs.declared.Session.{Session}
 use Rattle.session.specs.declared.Taken.{Taken}
-use Rattle.session.specs.Message.{appliedOf, messageOf}
+use Rattle.session.specs.Message.{appliedOf, sessionAfter, messageOf}
 use Rattle.literal.specs.Folds.{fold, foldPhase, foldState, foldCount, folds}
 use Rattle.literal.proofs.Fold.{fold-ltb}
 use Rattle.literal.proofs.Turns.{both}
@@ -66,32 +66,32 @@ begins (Stopping acknowledged est) = refl
 begins Error = refl
 
 refuse : {st : State} → Alike st Refuse Refuse
-unfolding appliedOf folds
+unfolding appliedOf sessionAfter folds
 refuse = record { alike = λ source a b n. refl }
 
 outOfStep : {st : State} → Alike st OutOfStep OutOfStep
-unfolding appliedOf folds fold
+unfolding appliedOf sessionAfter folds fold
 outOfStep = record { alike = λ source a b n. refl }
 
 opens : {st : State} → Alike st Open Open
-unfolding appliedOf folds foldState foldCount fold
+unfolding appliedOf sessionAfter folds foldState foldCount fold
 opens = record { alike = λ source a b n. refl }
 
 heard : {st : State} → Alike st Heard Heard
-unfolding appliedOf folds fold
+unfolding appliedOf sessionAfter folds fold
 heard = record { alike = λ source a b n. refl }
 
 enter : {st : State} (later later' : State) → foldState later ≡ later' → Alike st (Enter later) (Enter later')
-unfolding appliedOf folds fold
+unfolding appliedOf sessionAfter folds fold
 enter later later' e = record { alike = λ source a b n. rw (begins later, e) }
 
 ends : {st : State} → Alike st End End
-unfolding appliedOf folds foldState foldCount fold
+unfolding appliedOf sessionAfter folds foldState foldCount fold
 ends = record { alike = λ source a b n. refl }
 
 -- Stopping that goes on leaves the count in the same cycle
 keeps : (acknowledged : Bool) (est : Est) → Alike (Stopping acknowledged est) (Keep (Stopping true est)) (Keep (Stopping true est))
-unfolding appliedOf folds foldState foldCount fold
+unfolding appliedOf sessionAfter folds foldState foldCount fold
 keeps acknowledged est = record { alike = λ source a b n. refl }
 
 parameters : {st : State} → Alike st (Enter Parameters) (Enter Parameters)

@@ -31,7 +31,7 @@ use Rattle.outcomes.specs.declared.Outcome.the-variants.{Refuse, OutOfStep, Ope
 use Rattle.outcomes.specs.Message.{outcomeOf, inIdle, inOffered, inUnverified, inParameters, inReady, readyOf, crmOf, inCharging, inStopping, inError}
 use Rattle.outcomes.specs.Offer.{acceptedOf, stationMost}
 use Rattle.session.specs.declared.Session.{Session}
-use Rattle.session.specs.Message.{appliedOf, messageOf}
+use Rattle.session.specs.Message.{appliedOf, sessionAfter, messageOf}
 use Rattle.session.specs.Tick.{turnIn, turnedBy, silenceOf, waitedOf, endedOf, advanceIn, advanceOf, tickOf}
 use Rattle.literal.specs.Small.{phaseTime, phaseCycle, inPhase, Small}
 
@@ -207,36 +207,36 @@ whether true h k = h
 whether false h k = k
 
 refuse : Good Refuse
-unfolding appliedOf
+unfolding appliedOf sessionAfter
 refuse = record { good = λ source s h. h }
 
 outOfStep : Good OutOfStep
-unfolding appliedOf
+unfolding appliedOf sessionAfter
 outOfStep =
     record { good = λ source s h. record { count-604 = h .count-604; silence-200 = omega arith; time-18000 = h .time-18000; cycle-6 = h .cycle-6 } }
 
 heard : Good Heard
-unfolding appliedOf
+unfolding appliedOf sessionAfter
 heard =
     record { good = λ source s h. record { count-604 = h .count-604; silence-200 = omega arith; time-18000 = h .time-18000; cycle-6 = h .cycle-6 } }
 
 opens : Good Open
-unfolding appliedOf inPhase
+unfolding appliedOf sessionAfter inPhase
 opens =
     record { good = λ source s h. record { count-604 = omega arith; silence-200 = omega arith; time-18000 = omega arith; cycle-6 = omega arith } }
 
 finish : Good End
-unfolding appliedOf inPhase
+unfolding appliedOf sessionAfter inPhase
 finish =
     record { good = λ source s h. record { count-604 = omega arith; silence-200 = omega arith; time-18000 = omega arith; cycle-6 = omega arith } }
 
 enter : (st : State) → inPhase phaseTime st ≤ 18000 → inPhase phaseCycle st ≤ 6 → Good (Enter st)
-unfolding appliedOf
+unfolding appliedOf sessionAfter
 enter st time cycle =
     record { good = λ source s h. record { count-604 = omega arith; silence-200 = omega arith; time-18000 = time; cycle-6 = cycle } }
 
 keep : (est : Est) → Good (Keep (Stopping true est))
-unfolding appliedOf inPhase
+unfolding appliedOf sessionAfter inPhase
 keep est =
     record { good = λ source s h. record { count-604 = h .count-604; silence-200 = omega arith; time-18000 = omega arith; cycle-6 = omega arith } }
 

@@ -12,7 +12,7 @@ phaseTime (Drive request cycle time) = time
 phaseTime (Rest request cycle time) = time
 phaseTime (Hold time) = time
 
--- the Drives that have begun
+-- the Drives that have begun, of a Drive or the Rest that follows it (a Hold keeps no number)
 unfoldable pub phaseCycle : Phase → ℕ
 phaseCycle (Drive request cycle time) = cycle
 phaseCycle (Rest request cycle time) = cycle

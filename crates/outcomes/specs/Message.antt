@@ -16,6 +16,16 @@ use Rattle.outcomes.specs.declared.Outcome.{Outcome}
 use Rattle.outcomes.specs.declared.Outcome.the-variants.{Refuse, OutOfStep, Open, Heard, Enter, Keep, End}
 use Rattle.outcomes.specs.Offer.{acceptedOf, stationMost}
 
+-- the paper's number for each outcome: 0 is taken, 11 is not taken in this state
+abbrev pub outcomeNumber : Outcome → ℕ
+outcomeNumber Refuse = 11
+outcomeNumber OutOfStep = 11
+outcomeNumber Open = 0
+outcomeNumber Heard = 0
+outcomeNumber (Enter st) = 0
+outcomeNumber (Keep st) = 0
+outcomeNumber End = 0
+
 -- a frame that the state sends at count k has gone out since the state's entry
 abbrev pub goneOut : ℕ → ℕ → Bool
 goneOut k count = ltb k count

@@ -15,7 +15,7 @@ pub fn accepted(x: Settings, o: Offer) -> bool
                 & ((o.most <= o.least) & (4000 <= o.least as u32 + x.current as u32))))
 }
 
-// The station's maximum current in tenths.
+// The station's maximum current in tenths, and 0 where it is below 0, which the yes rule refuses.
 pub fn station_most(o: Offer) -> u16
     ensures { λ r. ⌜ r ≡ stationMost o ⌝ }
 {

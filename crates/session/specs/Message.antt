@@ -6,7 +6,7 @@ use Rattle.states.specs.declared.State.{State}
 use Rattle.states.specs.declared.State.the-variants.{Idle, Offered}
 use Rattle.outcomes.specs.declared.Outcome.{Outcome}
 use Rattle.outcomes.specs.declared.Outcome.the-variants.{Refuse, OutOfStep, Open, Heard, Enter, Keep, End}
-use Rattle.outcomes.specs.Message.{outcomeOf}
+use Rattle.outcomes.specs.Message.{outcomeOf, outcomeNumber}
 use Rattle.session.specs.declared.Session.{Session}
 use Rattle.session.specs.declared.Taken.{Taken}
 
@@ -14,21 +14,20 @@ use Rattle.session.specs.declared.Taken.{Taken}
 abbrev pub idleSession : Session
 idleSession = record { station = 0; silence = 0; count = 0; state = Idle }
 
--- 0 is taken; a taken charge message, also one that does nothing, sets silence to 0. 11 is not taken in this state, and alters nothing
--- but, out of step, the silence count
+-- a taken charge message, also one that does nothing, sets silence to 0; one that is out of step returns it to 0; any other that is
+-- refused alters nothing
+unfoldable pub sessionAfter : ℕ → Session → Outcome → Session
+sessionAfter source s Refuse = s
+sessionAfter source s OutOfStep = record { station = s .station; silence = 0; count = s .count; state = s .state }
+sessionAfter source s Open = record { station = source; silence = 0; count = 0; state = Offered }
+sessionAfter source s Heard = record { station = s .station; silence = 0; count = s .count; state = s .state }
+sessionAfter source s (Enter st) = record { station = s .station; silence = 0; count = 0; state = st }
+sessionAfter source s (Keep st) = record { station = s .station; silence = 0; count = s .count; state = st }
+sessionAfter source s End = idleSession
+
+-- the number of the outcome, and the session after it
 unfoldable pub appliedOf : ℕ → Session → Outcome → Taken
-appliedOf source s Refuse = record { number = 11; session = s }
-appliedOf source s OutOfStep =
-    record { number = 11; session = record { station = s .station; silence = 0; count = s .count; state = s .state } }
-appliedOf source s Open =
-    record { number = 0; session = record { station = source; silence = 0; count = 0; state = Offered } }
-appliedOf source s Heard =
-    record { number = 0; session = record { station = s .station; silence = 0; count = s .count; state = s .state } }
-appliedOf source s (Enter st) =
-    record { number = 0; session = record { station = s .station; silence = 0; count = 0; state = st } }
-appliedOf source s (Keep st) =
-    record { number = 0; session = record { station = s .station; silence = 0; count = s .count; state = st } }
-appliedOf source s End = record { number = 0; session = idleSession }
+appliedOf source s o = record { number = outcomeNumber o; session = sessionAfter source s o }
 
 unfoldable pub messageOf : Settings → ℕ → Session → ChargeMessage → Taken
 messageOf x source s m = appliedOf source s (outcomeOf x (s .state) (s .count) m)

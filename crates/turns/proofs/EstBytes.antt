@@ -68,6 +68,11 @@ module _ (x : Settings) (r : Readings) (c : Cells) where
   est-then Awaited = refl
   est-then (Fixed a b) = refl
 
+  -- and once fixed they stay, however many ticks Stopping lasts
+  pub est-stays : (first second : ℕ) → estThen x r c (Fixed first second) ≡ Fixed first second
+  unfolding estThen
+  est-stays first second = refl
+
   pub turn-fixes-est : (st : State) (count silence : ℕ) → fixedAfter (turnOf x r c st count silence) ≡ true
   unfolding turnOf stoppingOf errorOf
   turn-fixes-est Idle count silence = refl

@@ -1,5 +1,5 @@
 -- `session::outcome::applied` meets its contract: a line an outcome. Assumes nothing.
-use Rattle.session.specs.Message.{appliedOf}
+use Rattle.session.specs.Message.{appliedOf, sessionAfter}
 use borrow.Author.Needs.{needs}
 use Rattle.session.proofs.outcome.applied.Statement.{statement}
 use Rattle.session.proofs.outcome.applied.Tie as tie
@@ -29,31 +29,31 @@ idle-requires : tie.Need-idle-requires
 idle-requires c κs = search needs
 
 returns : tie.Need-returns
-unfolding appliedOf
+unfolding appliedOf sessionAfter
 returns c = rw (c .enum-told .given .1)
 
 returns-2 : tie.Need-returns-2
-unfolding appliedOf
+unfolding appliedOf sessionAfter
 returns-2 c = rw (c .enum-told2 .given .1)
 
 returns-3 : tie.Need-returns-3
-unfolding appliedOf
+unfolding appliedOf sessionAfter
 returns-3 c = rw (c .enum-told3 .given .1)
 
 returns-4 : tie.Need-returns-4
-unfolding appliedOf
+unfolding appliedOf sessionAfter
 returns-4 c = rw (c .enum-told4 .given .1)
 
 returns-5 : tie.Need-returns-5
-unfolding appliedOf
+unfolding appliedOf sessionAfter
 returns-5 c = rw (c .before .o .given .1)
 
 returns-6 : tie.Need-returns-6
-unfolding appliedOf
+unfolding appliedOf sessionAfter
 returns-6 c = rw (c .before .o2 .given .1)
 
 returns-7 : tie.Need-returns-7
-unfolding appliedOf
+unfolding appliedOf sessionAfter
 returns-7 c = rw (c .before .enum-told5 .given .1, c .idle .ensures)
 
 pub applied-spec : {M : Type 1} → statement M
