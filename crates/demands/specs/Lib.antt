@@ -1,1 +1,3 @@
 pub mod Machine
+pub mod InStep
+pub mod WorkedRows

@@ -1,0 +1,3 @@
+pub mod Steps
+pub mod Demand2
+pub mod WorkedRows
