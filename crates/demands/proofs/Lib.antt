@@ -1,3 +1,6 @@
 pub mod Steps
 pub mod Demand2
 pub mod WorkedRows
+pub mod Came
+pub mod Messages
+pub mod Ends

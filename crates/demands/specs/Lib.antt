@@ -1,3 +1,4 @@
 pub mod Machine
 pub mod InStep
 pub mod WorkedRows
+pub mod Ends
