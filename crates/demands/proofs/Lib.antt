@@ -4,3 +4,4 @@ pub mod WorkedRows
 pub mod Came
 pub mod Messages
 pub mod Ends
+pub mod Over

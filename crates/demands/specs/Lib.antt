@@ -2,3 +2,4 @@ pub mod Machine
 pub mod InStep
 pub mod WorkedRows
 pub mod Ends
+pub mod Over
