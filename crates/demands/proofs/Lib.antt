@@ -5,3 +5,5 @@ pub mod Came
 pub mod Messages
 pub mod Ends
 pub mod Over
+pub mod Turned
+pub mod Stops

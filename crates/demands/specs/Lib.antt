@@ -3,3 +3,4 @@ pub mod InStep
 pub mod WorkedRows
 pub mod Ends
 pub mod Over
+pub mod Stops
