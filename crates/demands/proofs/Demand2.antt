@@ -23,6 +23,7 @@ use Rattle.literal.proofs.InStep.{start-in-step}
 use Rattle.controller.specs.declared.Controller.{Controller}
 use Rattle.controller.specs.declared.Answer.{Answer}
 use Rattle.controller.specs.declared.Start.{Start}
+use Rattle.controller.specs.declared.Start.the-variants.{Made, Refused}
 use Rattle.controller.specs.declared.Ticked.{Ticked}
 use Rattle.controller.specs.Start.{freshOf, startWith, startOf, startNumber}
 use Rattle.controller.specs.Frame.{frameTo}
@@ -112,8 +113,8 @@ pub tick-is-the-machine : (c : Controller) (r : Readings) (v : List ℕ) (t : Li
 unfolding seenOf boxAfter accepted
 tick-is-the-machine c r v t old new k h = (
   rw (h .number, h .bytes, h .later)
-  (gave (eqb (tickNumber r v t (length old)) 0) (tickNumber r v t (length old)) (13 * length (tickFrames c r v t)) (tickFrames c r v t)
-  (recordsOf (tickFrames c r v t) ++ drop (13 * length (tickFrames c r v t)) old) old refl),
+      (gave (eqb (tickNumber r v t (length old)) 0) (tickNumber r v t (length old)) (13 * length (tickFrames c r v t)) (tickFrames c r v t)
+      (recordsOf (tickFrames c r v t) ++ drop (13 * length (tickFrames c r v t)) old) old refl),
   rw (h .next),
 )
 
@@ -123,11 +124,19 @@ pub frame-is-the-machine : (c : Controller) (id : ℕ) (s : List ℕ) (a : Answe
 unfolding seenOf boxAfter
 frame-is-the-machine c id s a h = (rw h, rw h)
 
--- as `read` promises it
+-- as `read` promises it: the number; a controller that is made is the one in use, and a refusal leaves the one in use
 pub read-is-the-machine : (b : Box) (s : List ℕ) (a : Start) → startNumber a ≡ recordNumber s → a ≡ startOf s
     → (seenOf tickNext b (Read s) ≡ Gave (startNumber a) 0 [] []) × (boxAfter tickNext b (Read s) ≡ started a b)
 unfolding seenOf boxAfter
 read-is-the-machine b s a n h = (rw n, rw h)
+
+pub made-is-in-use : (b : Box) (c : Controller) → started (Made c) b ≡ On c
+unfolding started
+made-is-in-use b c = refl
+
+pub refused-stays : (b : Box) (n : ℕ) → started (Refused n) b ≡ b
+unfolding started
+refused-stays b n = refl
 
 -- and as `write` promises it
 pub write-is-the-machine : (c : Controller) (old new : List ℕ) (w : Written) → Wrote (c .settings) old new w

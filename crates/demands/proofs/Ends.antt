@@ -9,6 +9,7 @@ use borrow.Author.Tests.{eqb-true, ltb-true}
 use lib.Dec.{eqb, ltb}
 use Rattle.messages.specs.declared.received.Charge.the-variants as charge
 use Rattle.messages.specs.Identifier.{partsOf}
+use Rattle.settings.specs.declared.Settings.{Settings}
 use Rattle.charge_messages.specs.declared.ChargeMessage.{ChargeMessage}
 use Rattle.charge_messages.specs.declared.ChargeMessage.the-variants.{Cim, Cvm, Cmp, Crm, Ccs, Cst, Cem}
 use Rattle.states.specs.declared.State.{State}
@@ -18,9 +19,9 @@ use Rattle.session.specs.Message.{appliedOf, messageOf}
 use Rattle.controller.specs.declared.Controller.{Controller}
 use Rattle.controller.specs.declared.Answer.{Answer}
 use Rattle.controller.specs.Frame.{isIdle, mayCharge, listed, withSession, frameTo}
-use Rattle.demands.specs.Ends.{isCharging, isStopping, Says, EndedBy, ByCem, ByCst, StoppedBy, AtCcs, AtCst, AtCem}
+use Rattle.demands.specs.Ends.{isCharging, isStopping, endsBy, leavesBy, Says, EndedBy, ByCem, ByCst, StoppedBy, AtCcs, AtCst, AtCem}
 use Rattle.demands.proofs.Came.{same, chargeOf, Came, Unmoved, Took, came}
-use Rattle.demands.proofs.Messages.{endsBy, leavesBy, ends-message, leaves-message}
+use Rattle.demands.proofs.Messages.{ends-message, leaves-message}
 
 second : (t u v : Bool) → t ≡ false → cond t u v ≡ true → v ≡ true
 second true u v h e = absurd (false≢true (sym h))
@@ -51,6 +52,16 @@ charging-open (Ready y most) h = refl
 charging-open (Charging p) h = refl
 charging-open (Stopping k e) h = refl
 charging-open Error h = refl
+
+-- in an open session, exactly which messages end it, and exactly which end its charge
+module _ (x : Settings) (source : ℕ) (s : Session) (m : ChargeMessage) where
+  pub which-message-ends-a-session : isIdle (s .state) ≡ false → isIdle (messageOf x source s m .session .state) ≡ endsBy (s .state) (s .count) m
+  unfolding messageOf appliedOf
+  which-message-ends-a-session = ends-message x source (s .station) (s .silence) (s .count) (s .state) m
+
+  pub which-message-ends-a-charge : isCharging (s .state) ≡ true → isCharging (messageOf x source s m .session .state) ≡ not (leavesBy m)
+  unfolding messageOf appliedOf
+  which-message-ends-a-charge = leaves-message x source (s .station) (s .silence) (s .count) (s .state) m
 
 module _ (c : Controller) (id : ℕ) (s : List ℕ) where
   ended-by : (m : ChargeMessage) → Says id s (chargeOf m) m → endsBy (c .session .state) (c .session .count) m ≡ true → EndedBy c id s
@@ -84,8 +95,8 @@ module _ (c : Controller) (id : ℕ) (s : List ℕ) where
   ended a (Took m says may k) h e = (
     station-is c (partsOf id .source) h may,
     ended-by m says
-    (sym (ends-message (c .settings) (partsOf id .source) (c .session .station) (c .session .silence) (c .session .count) (c .session .state) m h)
-    ∙ (ap (λ (t : Answer). isIdle (t .controller .session .state)) (sym k) ∙ e)),
+        (sym (which-message-ends-a-session (c .settings) (partsOf id .source) (c .session) m h)
+        ∙ (ap (λ (t : Answer). isIdle (t .controller .session .state)) (sym k) ∙ e)),
   )
 
   stopped : (a : Answer) → Came c id s a → isCharging (c .session .state) ≡ true → isCharging (a .controller .session .state) ≡ false
@@ -95,8 +106,8 @@ module _ (c : Controller) (id : ℕ) (s : List ℕ) where
   stopped a (Took m says may k) h e = (
     station-is c (partsOf id .source) (charging-open (c .session .state) h) may,
     stopped-by m says
-    ((sym e ∙ ap (λ (t : Answer). isCharging (t .controller .session .state)) k)
-    ∙ leaves-message (c .settings) (partsOf id .source) (c .session .station) (c .session .silence) (c .session .count) (c .session .state) m h),
+        ((sym e ∙ ap (λ (t : Answer). isCharging (t .controller .session .state)) k)
+        ∙ which-message-ends-a-charge (c .settings) (partsOf id .source) (c .session) m h),
   )
 
   -- what ends a session

@@ -15,28 +15,8 @@ use Rattle.outcomes.specs.Message.{outcomeOf, inOffered, inUnverified, inParame
 use Rattle.session.specs.declared.Session.{Session}
 use Rattle.session.specs.Message.{sessionAfter}
 use Rattle.controller.specs.Frame.{isIdle}
-use Rattle.demands.specs.Ends.{isCharging, isStopping}
+use Rattle.demands.specs.Ends.{isCharging, isStopping, endsBy, leavesBy}
 use Rattle.demands.proofs.Came.{same}
-
--- which messages end a session, in a state at a count
-unfoldable pub endsBy : State → ℕ → ChargeMessage → Bool
-endsBy st n Cim = false
-endsBy st n (Cvm b) = false
-endsBy st n (Cmp o) = false
-endsBy st n (Crm b) = false
-endsBy st n (Ccs b) = false
-endsBy st n (Cst b) = b && (isStopping st && ltb 0 n)
-endsBy st n Cem = true
-
--- and which end a charge
-unfoldable pub leavesBy : ChargeMessage → Bool
-leavesBy Cim = false
-leavesBy (Cvm b) = false
-leavesBy (Cmp o) = false
-leavesBy (Crm b) = false
-leavesBy (Ccs b) = not b
-leavesBy (Cst b) = true
-leavesBy Cem = true
 
 abbrev pub mk : ℕ → ℕ → ℕ → State → Session
 mk station silence count st = record { station = station; silence = silence; count = count; state = st }

@@ -8,23 +8,16 @@ use mathlib.Core.Bool.{Bool, true, false, cond, false≢true}
 use mathlib.Core.List.{List}
 use native.Mathlib.Omega.{arith}
 use lib.Dec.{eqb}
-use Rattle.messages.specs.declared.received.Charge.{Charge}
 use Rattle.messages.specs.declared.received.Charge.the-variants as charge
-use Rattle.messages.specs.declared.received.Message.{Message}
 use Rattle.messages.specs.declared.received.Message.the-variants as message
 use Rattle.messages.specs.declared.received.Recognized.{Recognized}
 use Rattle.messages.specs.declared.received.Recognized.the-variants as recognized
 use Rattle.messages.specs.Identifier.{partsOf}
-use Rattle.messages.specs.Received.{recognizedOf}
-use Rattle.settings.specs.declared.Settings.{Settings}
 use Rattle.charge_messages.specs.declared.ChargeMessage.{ChargeMessage}
 use Rattle.charge_messages.specs.declared.ChargeMessage.the-variants.{Cim, Cvm, Cmp, Crm, Ccs, Cst, Cem}
-use Rattle.states.specs.declared.State.{State}
 use Rattle.states.specs.declared.State.the-variants.{Idle}
 use Rattle.outcomes.specs.declared.Outcome.the-variants.{Refuse}
 use Rattle.outcomes.specs.Message.{outcomeOf, inIdle}
-use Rattle.session.specs.declared.Session.{Session}
-use Rattle.session.specs.declared.Taken.{Taken}
 use Rattle.session.specs.Message.{sessionAfter, appliedOf, messageOf}
 use Rattle.controller.specs.declared.Controller.{Controller}
 use Rattle.controller.specs.declared.Answer.{Answer}

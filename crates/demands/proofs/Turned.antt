@@ -70,8 +70,7 @@ module _ (f : State → Bool) (any : (p q : Phase) → f (Charging p) ≡ f (Cha
   unfolding tickOf literalTick advanceOf literalAdvance turnIn
   after-tick x r c s b h =
       let t = turnOf x r c (s .state) (s .count) (s .silence) in
-      let e : f (turnedBy s t .state) ≡ b = ap f (turned-state s t) ∙ h in
-      (
+      let e : f (turnedBy s t .state) ≡ b = ap f (turned-state s t) ∙ h in (
         counts-code (turnedBy s t) (turnedBy s t .state) refl ∙ e,
         counts-paper (turnedBy s t) (turnedBy s t .state) refl ∙ e,
       )
