@@ -1,0 +1,25 @@
+-- Demand 2, the code's controller beside the paper's. The code's counts go back where no test of the paper can tell; `codeOf` says which
+-- controller of the code stands for one with the paper's counts. It is the same but for those counts.
+use Prim.Native.Nat.{_%_}
+use mathlib.Core.Path.{_≡_}
+use Rattle.literal.specs.Folds.{folds}
+use Rattle.controller.specs.declared.Controller.{Controller}
+use Rattle.demands.specs.Machine.{Box, Off, On}
+
+-- the session's counts folded, the number of accepted ticks modulo 60, settings and waiting queries the same
+unfoldable pub codeOf : Controller → Controller
+codeOf c =
+    record {
+      settings = c .settings;
+      session = folds (c .session);
+      beat = record { tick = c .beat .tick % 60 };
+      queries = c .queries;
+    }
+
+unfoldable pub codeBox : Box → Box
+codeBox Off = Off
+codeBox (On c) = On (codeOf c)
+
+-- the second box stands for the first
+abbrev pub InStep : Box → Box → Type 0
+InStep paper code = codeBox paper ≡ code

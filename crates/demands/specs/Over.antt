@@ -1,0 +1,34 @@
+-- What a frame means once its session is over: nothing, unless it opens the next. The vocabulary of proofs/Over.antt, after 01, "Session by
+-- message": "Idle: CIM from a listed station opens Offered with it."
+use Prim.Native.Nat.{ℕ}
+use mathlib.Core.Path.{_≡_}
+use mathlib.Core.Bool.{true}
+use mathlib.Core.List.{List}
+use Rattle.messages.specs.declared.received.Charge.{Charge}
+use Rattle.messages.specs.declared.received.Charge.the-variants as charge
+use Rattle.messages.specs.declared.received.Message.the-variants as message
+use Rattle.messages.specs.declared.received.Recognized.the-variants.{As}
+use Rattle.messages.specs.Identifier.{partsOf}
+use Rattle.messages.specs.Received.{recognizedOf}
+use Rattle.charge_messages.specs.declared.ChargeMessage.the-variants.{Cim}
+use Rattle.states.specs.declared.State.the-variants.{Offered}
+use Rattle.session.specs.declared.Session.{Session}
+use Rattle.controller.specs.declared.Controller.{Controller}
+use Rattle.controller.specs.Frame.{listed, frameTo}
+use Rattle.demands.specs.Ends.{Says}
+
+-- a session just opened with a station
+abbrev pub openedWith : ℕ → Session
+openedWith source = record { station = source; silence = 0; count = 0; state = Offered }
+
+-- a well-formed CIM from a listed station: every check passes, and the session opens with its source
+pub record Opens (c : Controller) (id : ℕ) (s : List ℕ) : Type 0 where
+  pub cim : Says id s charge.Cim Cim
+  pub station : listed (partsOf id .source) (c .settings .stations) ≡ true
+  pub number : frameTo c id s .number ≡ 0
+  pub session : frameTo c id s .controller .session ≡ openedWith (partsOf id .source)
+
+-- the session is as it was, and where the frame is a charge message its number is not 0
+pub record Ignored (c : Controller) (id : ℕ) (s : List ℕ) : Type 0 where
+  pub session : frameTo c id s .controller .session ≡ c .session
+  pub number : (k : Charge) → recognizedOf (partsOf id .pf) ≡ As (message.Charge k) → frameTo c id s .number ≡ 0 → ⊥

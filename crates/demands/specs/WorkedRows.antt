@@ -1,0 +1,82 @@
+-- "Rows marked P below are shown of the definitions, as one table under a single statement" (01, "What a reader can rely on"; "Worked
+-- rows"). In the paper's order.
+use Prim.Native.Nat.{ℕ, suc}
+use mathlib.Core.Path.{_≡_}
+use mathlib.Core.Bool.{Bool, true, false}
+use mathlib.Core.List.{List, [], _∷_}
+use lib.IntN.{ℤ, pos, negsuc}
+use lib.ListN.{length, replicate}
+use Rattle.messages.specs.Table.{toTarget}
+use Rattle.frames.specs.Frame.{frameOf}
+use Rattle.settings.specs.declared.Settings.{Settings}
+use Rattle.readings.specs.declared.Readings.{Readings}
+use Rattle.readings.specs.Readings.{rawOf}
+use Rattle.cells.specs.declared.Cells.{Cells}
+use Rattle.cells.specs.Summaries.{summaryOf, averageOf}
+use Rattle.phases.specs.declared.Phase.the-variants.{Drive, Rest, Hold}
+use Rattle.phases.specs.declared.Turned.the-variants.{On}
+use Rattle.phases.specs.Phases.{startPhase, turnedOf}
+use Rattle.outcomes.specs.Offer.{tenthsOf}
+use Rattle.layouts.specs.Layouts.{holdVoltage, rawRequest, eimOf, eemOf}
+use Rattle.broadcasts.specs.Layouts.{psOf}
+use Rattle.queries.specs.declared.Kind.the-variants.{Voltages, Temperatures}
+use Rattle.queries.specs.declared.Query.{Query}
+use Rattle.queries.specs.Answering.{rowOf, groupFrame, pastEnd, atLast}
+
+-- a query that waits at a group, counted from 0
+abbrev pub voltagesAt : ℕ → ℕ → Query
+voltagesAt source group = record { source = source; kind = Voltages; group = group }
+
+abbrev pub temperaturesAt : ℕ → ℕ → Query
+temperaturesAt source group = record { source = source; kind = Temperatures; group = group }
+
+pub record WorkedRows : Type 0 where
+  -- EIM from F4 to 56 is 182756F4, whatever it says
+  pub eim : (x : Settings) (on : Bool) → x .own ≡ 0xf4 → eimOf x 0x56 on .id ≡ 0x1827_56f4
+  -- PS is 1CFA20F4
+  pub ps : (heartbeat : Bool) (r : Readings) (c : Cells) → psOf 0xf4 heartbeat r c .id ≡ 0x1cfa_20f4
+  -- EEM is 081E56F4
+  pub eem : (x : Settings) → x .own ≡ 0xf4 → eemOf x 0x56 .id ≡ 0x081e_56f4
+  -- 200.0 A is raw 2000; 1.2 A is 3988; -50.0 A is 4500 (`negsuc 499` is minus 500): measured, requested, and read in a CMP
+  pub raw-200 : rawOf (pos 2000) ≡ 2000
+  pub raw-1-2 : rawOf (pos 12) ≡ 3988
+  pub raw-minus-50 : rawOf (negsuc 499) ≡ 4500
+  pub requested-200 : rawRequest 2000 ≡ 2000
+  pub requested-1-2 : rawRequest 12 ≡ 3988
+  pub offered-200 : tenthsOf 2000 ≡ pos 2000
+  pub offered-1-2 : tenthsOf 3988 ≡ pos 12
+  pub offered-minus-50 : tenthsOf 4500 ≡ negsuc 499
+  -- maximum pack voltage 65535: 48 cells hold at 1704; 3 at 106
+  pub hold-48 : (x : Settings) (c : Cells) → x .pack .0 ≡ 65535 → c .volts .count ≡ 48 → holdVoltage x c ≡ 1704
+  pub hold-3 : (x : Settings) (c : Cells) → x .pack .0 ≡ 65535 → c .volts .count ≡ 3 → holdVoltage x c ≡ 106
+  -- 400 is asked 400, 200, 100, then Hold: each Drive goes to Rest at a full cell, each Rest of 6000 ticks to what follows
+  pub asked-400 : startPhase 400 400 ≡ Drive 400 1 0
+  pub rest-400 : turnedOf (Drive 400 1 0) true ≡ On (Rest 400 1 0)
+  pub asked-200 : turnedOf (Rest 400 1 6000) false ≡ On (Drive 200 2 0)
+  pub rest-200 : turnedOf (Drive 200 2 0) true ≡ On (Rest 200 2 0)
+  pub asked-100 : turnedOf (Rest 200 2 6000) false ≡ On (Drive 100 3 0)
+  pub rest-100 : turnedOf (Drive 100 3 0) true ≡ On (Rest 100 3 0)
+  pub then-hold : turnedOf (Rest 100 3 6000) false ≡ On (Hold 0)
+  -- R 60 drives, 59 holds: at the start and after a Rest
+  pub drives-60 : startPhase 400 60 ≡ Drive 60 1 0
+  pub holds-59 : startPhase 400 59 ≡ Hold 0
+  pub drives-60-again : turnedOf (Rest 120 1 6000) false ≡ On (Drive 60 2 0)
+  pub holds-59-then : turnedOf (Rest 119 1 6000) false ≡ On (Hold 0)
+  -- voltages 330, 331 average 330
+  pub average : averageOf (summaryOf (330 ∷ 331 ∷ [])) ≡ 330
+  -- equal cells give index 1, however many they are
+  pub equal-highest : (n x : ℕ) → summaryOf (replicate (suc n) x) .highest .index ≡ 1
+  pub equal-lowest : (n x : ℕ) → summaryOf (replicate (suc n) x) .lowest .index ≡ 1
+  -- cells 1 to 6, with 331 and 332 last: group PF 32 is 00 00 00 00 4C 01 4B 01
+  pub group-32 : (a b c d own source : ℕ) (t : List ℤ)
+      → groupFrame own (a ∷ b ∷ c ∷ d ∷ 331 ∷ 332 ∷ []) t (voltagesAt source 1)
+      ≡ frameOf (toTarget 0x32 7) source own (0x00 ∷ 0x00 ∷ 0x00 ∷ 0x00 ∷ 0x4c ∷ 0x01 ∷ 0x4b ∷ 0x01 ∷ [])
+  -- 255 cells end at PF 70 and A0: the group that is sent last has that PF, and there is one
+  pub voltages-end : (v : List ℕ) (t : List ℤ) (source group : ℕ) → length v ≡ 255
+      → pastEnd v t (voltagesAt source group) ≡ false → atLast v t (voltagesAt source group) ≡ true → rowOf Voltages group .0 ≡ 0x70
+  pub voltages-sent : (v : List ℕ) (t : List ℤ) (source : ℕ) → length v ≡ 255
+      → (pastEnd v t (voltagesAt source 63) ≡ false) × (atLast v t (voltagesAt source 63) ≡ true)
+  pub temperatures-end : (v : List ℕ) (t : List ℤ) (source group : ℕ) → length t ≡ 255
+      → pastEnd v t (temperaturesAt source group) ≡ false → atLast v t (temperaturesAt source group) ≡ true → rowOf Temperatures group .0 ≡ 0xa0
+  pub temperatures-sent : (v : List ℕ) (t : List ℤ) (source : ℕ) → length t ≡ 255
+      → (pastEnd v t (temperaturesAt source 31) ≡ false) × (atLast v t (temperaturesAt source 31) ≡ true)
