@@ -1,2 +1,3 @@
 pub mod Machine
 pub mod Apart
+pub mod Silent
