@@ -6,13 +6,14 @@ use mathlib.Core.Path.{_≡_, refl, ap, sym, subst, _∙_}
 use mathlib.Core.Bool.{Bool, true, false, not, cond, _&&_, _||_, false≢true}
 use mathlib.Core.List.{List, [], _∷_}
 use lib.Dec.{eqb, leb, ltb}
-use lib.IntN.{ℤ}
-use borrow.Author.Tests.{leb-true, leb-false}
+use lib.IntN.{ℤ, pos}
+use borrow.Author.Tests.{leb-true, leb-false, lt-leb}
 use Rattle.settings.specs.declared.Settings.{Settings}
 use Rattle.readings.specs.declared.Readings.{Readings}
-use Rattle.readings.specs.Readings.{wantedOf, aboveOf}
+use Rattle.readings.specs.Readings.{wantedOf, aboveOf, inRange, currentOk}
 use Rattle.cells.specs.declared.Cells.{Cells}
 use Rattle.cells.specs.Summaries.{cellsOf}
+use Rattle.cells.specs.Tables.{every}
 use Rattle.phases.specs.declared.Phase.{Phase}
 use Rattle.phases.specs.declared.Cause.{Cause}
 use Rattle.phases.specs.declared.Cause.the-variants.{PackVoltage, Other}
@@ -30,9 +31,10 @@ use Rattle.session.specs.Tick.{turnedBy, turnIn}
 use Rattle.literal.specs.Literal.{grown, counted, literalIn, literalAdvance, literalTick}
 use Rattle.controller.specs.declared.Controller.{Controller}
 use Rattle.controller.specs.Frame.{isIdle}
+use Rattle.controller.specs.Tick.{tickNumber}
 use Rattle.demands.specs.Machine.{paperNext}
 use Rattle.demands.specs.Apart.{Event, Came, Beaten, Wrote, accepts, after, ended, fromStation, reaches, Alike}
-use Rattle.demands.specs.Silent.{quietAt, silent, ticked, ticksIn, endsWithin}
+use Rattle.demands.specs.Silent.{quietAt, silent, ticked, ticksIn, endsWithin, repeated}
 use Rattle.demands.proofs.Apart.{unreached, kept-open}
 
 -- the ticks that a silent session has left, at most
@@ -237,3 +239,83 @@ pub within-801 : (c : Controller) (es : List Event) → silent (c .session .stat
 unfolding left
 within-801 c es q h =
     spent (c .session .station) es c (λ o. refl) q (omega (arith, most (c .session .state) (c .session .silence) (c .session .count)))
+
+-- ---- and 800 are not enough
+abbrev mk : ℕ → ℕ → ℕ → State → Session
+mk a b n st = record { station = a; silence = b; count = n; state = st }
+
+module _ (x : Settings) (r : Readings) (c : Cells) (a b n : ℕ) where
+  error-tick : leb 600 n ≡ false → literalTick x r c (mk a b n Error) ≡ mk a b (n + 1) Error
+  unfolding literalTick literalAdvance literalIn counted turnedBy turnIn turnOf errorOf
+  error-tick h = rw h
+
+  late-tick : leb 200 b ≡ true → literalTick x r c (mk a b n Offered) ≡ mk a 0 1 Error
+  unfolding literalTick literalAdvance literalIn counted turnedBy turnIn turnOf waitingOf
+  late-tick h = rw h
+
+  offered-tick : leb 200 b ≡ false → wantedOf r ≡ true → literalTick x r c (mk a b n Offered) ≡ mk a (b + 1) (n + 1) Offered
+  unfolding literalTick literalAdvance literalIn grown turnedBy turnIn turnOf waitingOf
+  offered-tick h w = rw (h, w)
+
+or-false : (a b : Bool) → a ≡ false → b ≡ false → (a || b) ≡ false
+or-false a b h k = rw (h, k)
+
+module _ (r : Readings) (v : List ℕ) (t : List ℤ) (old : List ℕ) (taken : accepts r v t old ≡ true) (wants : wantedOf r ≡ true) where
+  abbrev beat : Event
+  beat = Beaten r v t old
+
+  ticks : (c : Controller) (s : Session) → c .session ≡ s → after c beat .session ≡ literalTick (c .settings) r (cellsOf v t) s
+  unfolding after paperNext
+  ticks c s h = rw (taken, h)
+
+  open-error : (c : Controller) (a b n : ℕ) → c .session ≡ mk a b n Error → ended c ≡ false
+  unfolding ended isIdle
+  open-error c a b n h = rw h
+
+  open-offered : (c : Controller) (a b n : ℕ) → c .session ≡ mk a b n Offered → ended c ≡ false
+  unfolding ended isIdle
+  open-offered c a b n h = rw h
+
+  lives-error : (k : ℕ) (c : Controller) (a b n : ℕ) → c .session ≡ mk a b n Error → n + k ≤ 600 → endsWithin c (repeated k beat) ≡ false
+  unfolding endsWithin repeated
+  lives-error zero c a b n h l = open-error c a b n h
+  lives-error (suc k) c a b n h l =
+      or-false (ended c) _ (open-error c a b n h)
+      (lives-error k (after c beat) a b (n + 1)
+      (ticks c (mk a b n Error) h ∙ error-tick (c .settings) r (cellsOf v t) a b n (lt-leb 600 n (omega arith))) (omega arith))
+
+  lives-offered : (k : ℕ) (c : Controller) (a b n : ℕ) → c .session ≡ mk a b n Offered → b ≤ 200 → b + k ≤ 800 → endsWithin c (repeated k beat) ≡ false
+  unfolding endsWithin repeated
+  lives-offered zero c a b n h l g = open-offered c a b n h
+  lives-offered (suc k) c a b n h l g =
+      or-false (ended c) _ (open-offered c a b n h)
+      (go (leb 200 b) refl (λ p m q. lives-offered k (after c beat) a (b + 1) (n + 1) p m q))
+    where
+      go : (f : Bool) → leb 200 b ≡ f
+          → (after c beat .session ≡ mk a (b + 1) (n + 1) Offered → b + 1 ≤ 200 → b + 1 + k ≤ 800 → endsWithin (after c beat) (repeated k beat) ≡ false)
+          → endsWithin (after c beat) (repeated k beat) ≡ false
+      go true e ih =
+          lives-error k (after c beat) a 0 1 (ticks c (mk a b n Offered) h ∙ late-tick (c .settings) r (cellsOf v t) a b n e)
+          (omega (arith, leb-true 200 b e))
+      go false e ih =
+          ih (ticks c (mk a b n Offered) h ∙ offered-tick (c .settings) r (cellsOf v t) a b n e wants) (omega (arith, leb-false 200 b e)) (omega arith)
+
+  -- an Offered session that has just heard its station lives through 800 accepted ticks that want charge
+  pub not-within-800 : (c : Controller) (a n : ℕ) → c .session ≡ mk a 0 n Offered → endsWithin c (repeated 800 beat) ≡ false
+  not-within-800 c a n h = lives-offered 800 c a 0 n h (omega arith) (omega arith)
+
+-- there is such a tick: one cell of 3.30 V at 20 F, a buffer of 117 bytes, all readings 0 but 80 hex in status byte two
+pub zeros : ℕ → List ℕ
+zeros zero = []
+zeros (suc n) = 0 ∷ zeros n
+
+pub quietReadings : Readings
+quietReadings =
+    record {
+      one = 0; two = 0x80; soc = 0; current = pos 0; pack = record { 0 = 0 }; capacity = 0;
+      faults = record { active = 0; latched = 0 }; warnings = record { active = 0; latched = 0 };
+    }
+
+pub such-a-tick : (accepts quietReadings (330 ∷ []) (pos 20 ∷ []) (zeros 117) ≡ true) × (wantedOf quietReadings ≡ true)
+unfolding quietReadings zeros accepts tickNumber inRange wantedOf currentOk every
+such-a-tick = (refl, refl)

@@ -1,5 +1,5 @@
 -- A session whose station falls silent ends within 801 accepted ticks (01, "What a reader can rely on").
-use Prim.Native.Nat.{ℕ, _+_}
+use Prim.Native.Nat.{ℕ, zero, suc, _+_}
 use mathlib.Core.Bool.{Bool, true, false, not, cond, _&&_, _||_}
 use mathlib.Core.List.{List, [], _∷_}
 use Rattle.controller.specs.declared.Controller.{Controller}
@@ -29,3 +29,8 @@ ticksIn (e ∷ es) = cond (ticked e) 1 0 + ticksIn es
 unfoldable pub endsWithin : Controller → List Event → Bool
 endsWithin c [] = ended c
 endsWithin c (e ∷ es) = ended c || endsWithin (after c e) es
+
+-- the same event so many times
+unfoldable pub repeated : ℕ → Event → List Event
+repeated zero e = []
+repeated (suc n) e = e ∷ repeated n e
