@@ -51,11 +51,11 @@ after-is c (Beaten r v t old) = refl
 after-is c (Wrote old) = refl
 
 -- ---- a choice by a test
-choice : (P : Answer → Type 0) (t : Bool) (a b : Answer) → (t ≡ true → P a) → (t ≡ false → P b) → P (cond t a b)
+pub choice : (P : Answer → Type 0) (t : Bool) (a b : Answer) → (t ≡ true → P a) → (t ≡ false → P b) → P (cond t a b)
 choice P true a b f g = f refl
 choice P false a b f g = g refl
 
-choices : (P : Answer → Answer → Type 0) (t : Bool) (a b c d : Answer) → P a c → P b d → P (cond t a b) (cond t c d)
+pub choices : (P : Answer → Answer → Type 0) (t : Bool) (a b c d : Answer) → P a c → P b d → P (cond t a b) (cond t c d)
 choices P true a b c d f g = f
 choices P false a b c d f g = g
 

@@ -312,8 +312,14 @@ zeros (suc n) = 0 ∷ zeros n
 pub quietReadings : Readings
 quietReadings =
     record {
-      one = 0; two = 0x80; soc = 0; current = pos 0; pack = record { 0 = 0 }; capacity = 0;
-      faults = record { active = 0; latched = 0 }; warnings = record { active = 0; latched = 0 };
+      one = 0;
+      two = 0x80;
+      soc = 0;
+      current = pos 0;
+      pack = record { 0 = 0 };
+      capacity = 0;
+      faults = record { active = 0; latched = 0 };
+      warnings = record { active = 0; latched = 0 };
     }
 
 pub such-a-tick : (accepts quietReadings (330 ∷ []) (pos 20 ∷ []) (zeros 117) ≡ true) × (wantedOf quietReadings ≡ true)
