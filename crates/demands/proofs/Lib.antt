@@ -7,3 +7,6 @@ pub mod Ends
 pub mod Over
 pub mod Turned
 pub mod Stops
+pub mod Apart
+pub mod Silent
+pub mod Unmoved

@@ -4,3 +4,6 @@ pub mod WorkedRows
 pub mod Ends
 pub mod Over
 pub mod Stops
+pub mod Apart
+pub mod Silent
+pub mod Unmoved

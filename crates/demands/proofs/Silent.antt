@@ -1,0 +1,327 @@
+-- A session whose station falls silent ends within 801 accepted ticks (01, "What a reader can rely on"), whatever other addresses send; and 800 are
+-- not enough. Assumes nothing.
+use Prim.Native.Nat.{ℕ, zero, suc, _+_, _-_, _≤_, _<_}
+use native.Mathlib.Omega.{arith}
+use mathlib.Core.Path.{_≡_, refl, ap, sym, subst, _∙_}
+use mathlib.Core.Bool.{Bool, true, false, not, cond, _&&_, _||_, false≢true}
+use mathlib.Core.List.{List, [], _∷_}
+use lib.Dec.{eqb, leb, ltb}
+use lib.IntN.{ℤ, pos}
+use borrow.Author.Tests.{leb-true, leb-false, lt-leb}
+use Rattle.settings.specs.declared.Settings.{Settings}
+use Rattle.readings.specs.declared.Readings.{Readings}
+use Rattle.readings.specs.Readings.{wantedOf, aboveOf, inRange, currentOk}
+use Rattle.cells.specs.declared.Cells.{Cells}
+use Rattle.cells.specs.Summaries.{cellsOf}
+use Rattle.cells.specs.Tables.{every}
+use Rattle.phases.specs.declared.Phase.{Phase}
+use Rattle.phases.specs.declared.Cause.{Cause}
+use Rattle.phases.specs.declared.Cause.the-variants.{PackVoltage, Other}
+use Rattle.phases.specs.declared.Turned.{Turned}
+use Rattle.phases.specs.declared.Turned.the-variants as turned
+use Rattle.phases.specs.Phases.{turnedOf}
+use Rattle.states.specs.declared.Est.{Est}
+use Rattle.states.specs.declared.State.{State}
+use Rattle.states.specs.declared.State.the-variants.{Idle, Offered, Unverified, Parameters, Ready, Charging, Stopping, Error}
+use Rattle.turns.specs.declared.Turn.{Turn}
+use Rattle.turns.specs.declared.Turn.the-variants as turn
+use Rattle.turns.specs.Turns.{stopOf, estThen, waitingOf, phaseOn, phaseTurn, stopsOf, chargingOf, stoppingOf, errorOf, turnOf, cellFull, packFull}
+use Rattle.session.specs.declared.Session.{Session}
+use Rattle.session.specs.Tick.{turnedBy, turnIn}
+use Rattle.literal.specs.Literal.{grown, counted, literalIn, literalAdvance, literalTick}
+use Rattle.controller.specs.declared.Controller.{Controller}
+use Rattle.controller.specs.Frame.{isIdle}
+use Rattle.controller.specs.Tick.{tickNumber}
+use Rattle.demands.specs.Machine.{paperNext}
+use Rattle.demands.specs.Apart.{Event, Came, Beaten, Wrote, accepts, after, ended, fromStation, reaches, Alike}
+use Rattle.demands.specs.Silent.{quietAt, silent, ticked, ticksIn, endsWithin, repeated}
+use Rattle.demands.proofs.Apart.{unreached, kept-open}
+
+-- the ticks that a silent session has left, at most
+leftIn : State → ℕ → ℕ → ℕ
+leftIn Idle b n = 0
+leftIn Offered b n = 601 + (200 - b)
+leftIn Unverified b n = 601 + (200 - b)
+leftIn Parameters b n = 601 + (200 - b)
+leftIn (Ready y k) b n = 601 + (200 - b)
+leftIn (Charging p) b n = 601 + (200 - b)
+leftIn (Stopping a e) b n = 1 + (600 - n)
+leftIn Error b n = 1 + (600 - n)
+
+left : Session → ℕ
+left s = leftIn (s .state) (s .silence) (s .count)
+
+most : (st : State) (b n : ℕ) → leftIn st b n ≤ 801
+unfolding leftIn
+most Idle b n = omega arith
+most Offered b n = omega arith
+most Unverified b n = omega arith
+most Parameters b n = omega arith
+most (Ready y k) b n = omega arith
+most (Charging p) b n = omega arith
+most (Stopping a e) b n = omega arith
+most Error b n = omega arith
+
+some : (st : State) (b n : ℕ) → isIdle st ≡ false → 0 < leftIn st b n
+unfolding leftIn isIdle
+some Idle b n o = absurd (false≢true (sym o))
+some Offered b n o = omega arith
+some Unverified b n o = omega arith
+some Parameters b n o = omega arith
+some (Ready y k) b n o = omega arith
+some (Charging p) b n o = omega arith
+some (Stopping a e) b n o = omega arith
+some Error b n o = omega arith
+
+-- what is left after a tick's turn
+next : Session → Turn → ℕ
+next s t = left (literalAdvance (turnedBy s t))
+
+-- Offered to Charging
+early : State → Bool
+early Idle = false
+early Offered = true
+early Unverified = true
+early Parameters = true
+early (Ready y n) = true
+early (Charging p) = true
+early (Stopping a e) = false
+early Error = false
+
+next-on : (s : Session) (st : State) → early st ≡ true → next s (turn.On st) ≡ 601 + (200 - (s .silence + 1))
+unfolding next left leftIn early literalAdvance literalIn grown turnedBy
+next-on s Idle e = absurd (false≢true e)
+next-on s Offered e = refl
+next-on s Unverified e = refl
+next-on s Parameters e = refl
+next-on s (Ready y k) e = refl
+next-on s (Charging p) e = refl
+next-on s (Stopping a f) e = absurd (false≢true e)
+next-on s Error e = absurd (false≢true e)
+
+next-error : (s : Session) → next s (turn.Enter Error) ≡ 600
+unfolding next left leftIn literalAdvance literalIn counted turnedBy
+next-error s = refl
+
+next-stop : (x : Settings) (r : Readings) (c : Cells) (s : Session) (k : Cause) → next s (stopOf x r c k) ≡ 600
+unfolding next left leftIn literalAdvance literalIn counted turnedBy stopOf
+next-stop x r c s k = refl
+
+next-farewell : (s : Session) → next s turn.Farewell ≡ 0
+unfolding next left leftIn literalAdvance literalIn turnedBy
+next-farewell s = refl
+
+next-end : (s : Session) → next s turn.End ≡ 0
+unfolding next left leftIn literalAdvance literalIn turnedBy
+next-end s = refl
+
+next-stopping : (s : Session) (a : Bool) (e : Est) → next s (turn.On (Stopping a e)) ≡ 1 + (600 - (s .count + 1))
+unfolding next left leftIn literalAdvance literalIn counted turnedBy
+next-stopping s a e = refl
+
+next-in-error : (s : Session) → next s (turn.On Error) ≡ 1 + (600 - (s .count + 1))
+unfolding next left leftIn literalAdvance literalIn counted turnedBy
+next-in-error s = refl
+
+falls-waiting : (r : Readings) (s : Session) (st : State) → early st ≡ true → next s (waitingOf r (s .silence) st) < 601 + (200 - s .silence)
+unfolding waitingOf
+falls-waiting r s st e = go (leb 200 (s .silence)) refl (wantedOf r)
+  where
+    go : (t : Bool) → leb 200 (s .silence) ≡ t → (w : Bool) → next s (cond t (turn.Enter Error) (cond w (turn.On st) turn.Farewell)) < 601 + (200 - s .silence)
+    go true h w = omega (arith, next-error s)
+    go false h true = omega (arith, next-on s st e, leb-false 200 (s .silence) h)
+    go false h false = omega (arith, next-farewell s)
+
+module _ (x : Settings) (r : Readings) (c : Cells) (s : Session) where
+  falls-phase : (q : Turned) → leb 200 (s .silence) ≡ false → next s (phaseOn x r c q) < 601 + (200 - s .silence)
+  unfolding phaseOn early
+  falls-phase (turned.On p) h = omega (arith, next-on s (Charging p) refl, leb-false 200 (s .silence) h)
+  falls-phase (turned.Stop k) h = omega (arith, next-stop x r c s k)
+
+  falls-charging : (p : Phase) → next s (chargingOf x r c (s .silence) p) < 601 + (200 - s .silence)
+  unfolding chargingOf stopsOf phaseTurn
+  falls-charging p = go (leb 200 (s .silence)) refl (wantedOf r) (aboveOf (r .current) (x .current)) (packFull x r)
+    where
+      go : (t : Bool) → leb 200 (s .silence) ≡ t → (w u y : Bool) →
+          next s (cond t (turn.Enter Error) (cond w (cond u (stopOf x r c Other) (cond y (stopOf x r c PackVoltage) (phaseOn x r c (turnedOf p (cellFull x c))))) (stopOf x r c Other))) < 601 + (200 - s .silence)
+      go true h w u y = omega (arith, next-error s)
+      go false h false u y = omega (arith, next-stop x r c s Other)
+      go false h true true y = omega (arith, next-stop x r c s Other)
+      go false h true false true = omega (arith, next-stop x r c s PackVoltage)
+      go false h true false false = falls-phase (turnedOf p (cellFull x c)) h
+
+  falls-stopping : (a : Bool) (e : Est) → next s (stoppingOf x r c (s .count) a e) < 1 + (600 - s .count)
+  unfolding stoppingOf
+  falls-stopping a e = go (leb 600 (s .count)) refl
+    where
+      go : (t : Bool) → leb 600 (s .count) ≡ t → next s (cond t turn.End (turn.On (Stopping a (estThen x r c e)))) < 1 + (600 - s .count)
+      go true h = omega (arith, next-end s)
+      go false h = omega (arith, next-stopping s a (estThen x r c e), leb-false 600 (s .count) h)
+
+  falls-error : next s (errorOf (s .count)) < 1 + (600 - s .count)
+  unfolding errorOf
+  falls-error = go (leb 600 (s .count)) refl
+    where
+      go : (t : Bool) → leb 600 (s .count) ≡ t → next s (cond t turn.End (turn.On Error)) < 1 + (600 - s .count)
+      go true h = omega (arith, next-end s)
+      go false h = omega (arith, next-in-error s, leb-false 600 (s .count) h)
+
+  falls-in : (st : State) → isIdle st ≡ false → next s (turnOf x r c st (s .count) (s .silence)) < leftIn st (s .silence) (s .count)
+  unfolding turnOf leftIn isIdle early
+  falls-in Idle o = absurd (false≢true (sym o))
+  falls-in Offered o = falls-waiting r s Offered refl
+  falls-in Unverified o = falls-waiting r s Unverified refl
+  falls-in Parameters o = falls-waiting r s Parameters refl
+  falls-in (Ready y k) o = falls-waiting r s (Ready y k) refl
+  falls-in (Charging p) o = falls-charging p
+  falls-in (Stopping a e) o = falls-stopping a e
+  falls-in Error o = falls-error
+
+  -- a tick of an open session leaves less
+  falls : isIdle (s .state) ≡ false → left (literalTick x r c s) < left s
+  unfolding left literalTick next turnIn
+  falls o = falls-in (s .state) o
+
+-- ---- over a list of events
+quiet-unheard : (t : Bool) → not t ≡ true → t ≡ false
+quiet-unheard true h = absurd (false≢true h)
+quiet-unheard false h = refl
+
+and-left : (a b : Bool) → (a && b) ≡ true → a ≡ true
+and-left true b h = refl
+and-left false b h = h
+
+and-right : (a b : Bool) → (a && b) ≡ true → b ≡ true
+and-right true b h = h
+and-right false b h = absurd (false≢true h)
+
+tick-falls : (c : Controller) (r : Readings) (v : List ℕ) (t : List ℤ) (b : Bool) → ended c ≡ false
+    → cond b 1 0 + left (cond b (paperNext c r v t) c .session) ≤ left (c .session)
+unfolding paperNext ended
+tick-falls c r v t true o = let f : left (paperNext c r v t .session) < left (c .session) = falls (c .settings) r (cellsOf v t) (c .session) o in omega arith
+tick-falls c r v t false o = omega arith
+
+-- one event of a silent station's: if accepted tick, less is left, else no more
+event-falls : (c : Controller) (e : Event) → ended c ≡ false → quietAt (c .session .station) e ≡ true
+    → cond (ticked e) 1 0 + left (after c e .session) ≤ left (c .session)
+unfolding quietAt ticked after reaches
+event-falls c (Came id s) o q =
+    same (after c (Came id s) .session) (unreached c (Came id s) o (quiet-unheard (fromStation (c .session .station) id) q) .session)
+  where
+    same : (z : Session) → z ≡ c .session → 0 + left z ≤ left (c .session)
+    same z h = subst (λ (y : Session). 0 + left z ≤ left y) h (omega arith)
+event-falls c (Beaten r v t old) o q = tick-falls c r v t (accepts r v t old) o
+event-falls c (Wrote old) o q = omega arith
+
+some-left : (c : Controller) → ended c ≡ false → 0 < left (c .session)
+unfolding ended left
+some-left c o = some (c .session .state) (c .session .silence) (c .session .count) o
+
+either : (t b : Bool) → (t ≡ false → b ≡ true) → (t || b) ≡ true
+either true b f = refl
+either false b f = f refl
+
+none-left : (t : Bool) → (t ≡ false → false ≡ true) → t ≡ true
+none-left true f = refl
+none-left false f = f refl
+
+spent : (st : ℕ) (es : List Event) (c : Controller) → (ended c ≡ false → c .session .station ≡ st) → silent st es ≡ true
+    → left (c .session) ≤ ticksIn es → endsWithin c es ≡ true
+unfolding endsWithin ticksIn silent
+spent st [] c k q h = none-left (ended c) (λ o. absurd (omega (arith, some-left c o)))
+spent st (e ∷ es) c k q h =
+    either (ended c) (endsWithin (after c e) es)
+    (λ o. spent st es (after c e) (λ p. kept-open c e o p ∙ k o) (and-right (quietAt st e) (silent st es) q)
+    (omega (arith, event-falls c e o (ap (λ (z : ℕ). quietAt z e) (k o) ∙ and-left (quietAt st e) (silent st es) q))))
+
+-- a session whose station falls silent ends within 801 accepted ticks
+pub within-801 : (c : Controller) (es : List Event) → silent (c .session .station) es ≡ true → 801 ≤ ticksIn es → endsWithin c es ≡ true
+unfolding left
+within-801 c es q h =
+    spent (c .session .station) es c (λ o. refl) q (omega (arith, most (c .session .state) (c .session .silence) (c .session .count)))
+
+-- ---- and 800 are not enough
+abbrev mk : ℕ → ℕ → ℕ → State → Session
+mk a b n st = record { station = a; silence = b; count = n; state = st }
+
+module _ (x : Settings) (r : Readings) (c : Cells) (a b n : ℕ) where
+  error-tick : leb 600 n ≡ false → literalTick x r c (mk a b n Error) ≡ mk a b (n + 1) Error
+  unfolding literalTick literalAdvance literalIn counted turnedBy turnIn turnOf errorOf
+  error-tick h = rw h
+
+  late-tick : leb 200 b ≡ true → literalTick x r c (mk a b n Offered) ≡ mk a 0 1 Error
+  unfolding literalTick literalAdvance literalIn counted turnedBy turnIn turnOf waitingOf
+  late-tick h = rw h
+
+  offered-tick : leb 200 b ≡ false → wantedOf r ≡ true → literalTick x r c (mk a b n Offered) ≡ mk a (b + 1) (n + 1) Offered
+  unfolding literalTick literalAdvance literalIn grown turnedBy turnIn turnOf waitingOf
+  offered-tick h w = rw (h, w)
+
+or-false : (a b : Bool) → a ≡ false → b ≡ false → (a || b) ≡ false
+or-false a b h k = rw (h, k)
+
+module _ (r : Readings) (v : List ℕ) (t : List ℤ) (old : List ℕ) (taken : accepts r v t old ≡ true) (wants : wantedOf r ≡ true) where
+  abbrev beat : Event
+  beat = Beaten r v t old
+
+  ticks : (c : Controller) (s : Session) → c .session ≡ s → after c beat .session ≡ literalTick (c .settings) r (cellsOf v t) s
+  unfolding after paperNext
+  ticks c s h = rw (taken, h)
+
+  open-error : (c : Controller) (a b n : ℕ) → c .session ≡ mk a b n Error → ended c ≡ false
+  unfolding ended isIdle
+  open-error c a b n h = rw h
+
+  open-offered : (c : Controller) (a b n : ℕ) → c .session ≡ mk a b n Offered → ended c ≡ false
+  unfolding ended isIdle
+  open-offered c a b n h = rw h
+
+  lives-error : (k : ℕ) (c : Controller) (a b n : ℕ) → c .session ≡ mk a b n Error → n + k ≤ 600 → endsWithin c (repeated k beat) ≡ false
+  unfolding endsWithin repeated
+  lives-error zero c a b n h l = open-error c a b n h
+  lives-error (suc k) c a b n h l =
+      or-false (ended c) _ (open-error c a b n h)
+      (lives-error k (after c beat) a b (n + 1)
+      (ticks c (mk a b n Error) h ∙ error-tick (c .settings) r (cellsOf v t) a b n (lt-leb 600 n (omega arith))) (omega arith))
+
+  lives-offered : (k : ℕ) (c : Controller) (a b n : ℕ) → c .session ≡ mk a b n Offered → b ≤ 200 → b + k ≤ 800 → endsWithin c (repeated k beat) ≡ false
+  unfolding endsWithin repeated
+  lives-offered zero c a b n h l g = open-offered c a b n h
+  lives-offered (suc k) c a b n h l g =
+      or-false (ended c) _ (open-offered c a b n h)
+      (go (leb 200 b) refl (λ p m q. lives-offered k (after c beat) a (b + 1) (n + 1) p m q))
+    where
+      go : (f : Bool) → leb 200 b ≡ f
+          → (after c beat .session ≡ mk a (b + 1) (n + 1) Offered → b + 1 ≤ 200 → b + 1 + k ≤ 800 → endsWithin (after c beat) (repeated k beat) ≡ false)
+          → endsWithin (after c beat) (repeated k beat) ≡ false
+      go true e ih =
+          lives-error k (after c beat) a 0 1 (ticks c (mk a b n Offered) h ∙ late-tick (c .settings) r (cellsOf v t) a b n e)
+          (omega (arith, leb-true 200 b e))
+      go false e ih =
+          ih (ticks c (mk a b n Offered) h ∙ offered-tick (c .settings) r (cellsOf v t) a b n e wants) (omega (arith, leb-false 200 b e)) (omega arith)
+
+  -- an Offered session that has just heard its station lives through 800 accepted ticks that want charge
+  pub not-within-800 : (c : Controller) (a n : ℕ) → c .session ≡ mk a 0 n Offered → endsWithin c (repeated 800 beat) ≡ false
+  not-within-800 c a n h = lives-offered 800 c a 0 n h (omega arith) (omega arith)
+
+-- there is such a tick: one cell of 3.30 V at 20 F, a buffer of 117 bytes, all readings 0 but 80 hex in status byte two
+pub zeros : ℕ → List ℕ
+zeros zero = []
+zeros (suc n) = 0 ∷ zeros n
+
+pub quietReadings : Readings
+quietReadings =
+    record {
+      one = 0;
+      two = 0x80;
+      soc = 0;
+      current = pos 0;
+      pack = record { 0 = 0 };
+      capacity = 0;
+      faults = record { active = 0; latched = 0 };
+      warnings = record { active = 0; latched = 0 };
+    }
+
+pub such-a-tick : (accepts quietReadings (330 ∷ []) (pos 20 ∷ []) (zeros 117) ≡ true) × (wantedOf quietReadings ≡ true)
+unfolding quietReadings zeros accepts tickNumber inRange wantedOf currentOk every
+such-a-tick = (refl, refl)

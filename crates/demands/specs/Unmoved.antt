@@ -1,0 +1,44 @@
+-- Demand 3, second half: charge messages never change a broadcast, a cell answer or the number that a query is given.
+use Prim.Native.Nat.{ℕ}
+use mathlib.Core.Path.{_≡_}
+use mathlib.Core.Bool.{Bool, true, false, cond}
+use mathlib.Core.List.{List, [], _∷_, _++_}
+use Rattle.frames.specs.declared.Frame.{Frame}
+use Rattle.controller.specs.declared.Controller.{Controller}
+use Rattle.controller.specs.declared.Answer.{Answer}
+use Rattle.controller.specs.Frame.{frameTo}
+use Rattle.controller.specs.Tick.{broadcastFrames, cellFrames}
+use Rattle.demands.specs.Apart.{Event, Came, Beaten, Wrote, accepts, after, isCharge}
+
+-- a frame that by its PF is a charge message, well formed or not, from any address
+unfoldable pub charging : Event → Bool
+charging (Came id s) = isCharge id
+charging (Beaten r v t old) = false
+charging (Wrote old) = false
+
+-- the events without the charge messages
+unfoldable pub others : List Event → List Event
+others [] = []
+others (e ∷ es) = cond (charging e) (others es) (e ∷ others es)
+
+-- what is said beside the session: to a frame that is no charge message, so to each query, its number; at a tick its broadcasts and its cell
+-- frame
+pub data Said : Type 0 where
+  Answered : ℕ → Said
+  Broadcast : List Frame → List Frame → Said
+
+unfoldable pub saidAt : Controller → Event → List Said
+saidAt c (Came id s) = cond (isCharge id) [] (Answered (frameTo c id s .number) ∷ [])
+saidAt c (Beaten r v t old) =
+    cond (accepts r v t old) (Broadcast (broadcastFrames c r v t) (cellFrames c r v t)) (Broadcast [] []) ∷ []
+saidAt c (Wrote old) = []
+
+unfoldable pub said : Controller → List Event → List Said
+said c [] = []
+said c (e ∷ es) = saidAt c e ++ said (after c e) es
+
+-- the same settings, the same place in the broadcasts and the same waiting queries, whatever the sessions are
+pub record Beside (c d : Controller) : Type 0 where
+  pub settings : c .settings ≡ d .settings
+  pub beat : c .beat ≡ d .beat
+  pub queries : c .queries ≡ d .queries
