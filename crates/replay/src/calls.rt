@@ -180,7 +180,8 @@ fn print_frames(buf: &Buffer, n: usize, tick: u64, o: &mut Out, at: usize) -> us
     a
 }
 
-fn next(n: u64) -> u64 {
+// The next number; the last of all stays.
+pub fn next(n: u64) -> u64 {
     if n < u64::MAX { n + 1 } else { n }
 }
 

@@ -1,4 +1,14 @@
 // Replays a list of calls: reads them on standard input, a line each, and writes what the controller answers, sends and enters.
+//   settings HEX                    a settings record (`-`: no bytes); one that is accepted makes a fresh controller
+//   readings ST1 ST2 SOC CURRENT PACKV CAPACITY AF LF AW LW
+//   voltages N N ..                 the cell tables that each later tick is lent
+//   temperatures N N ..
+//   buffer N                        the length of the buffer that each later tick is lent
+//   tick [N]                        one tick, or N
+//   ID#DATA                         a received frame, in hex
+//   (SECONDS.MICROS) IFACE ID#DATA  the same from a candump log, after the ticks that are due by then
+//   write N                         the settings in use, into a buffer of N bytes
+// A blank line or one that begins with `#` is ignored. A line that is none of these is answered `unreadable line N`.
 mod calls;
 mod clock;
 mod forms;
@@ -24,10 +34,6 @@ struct Place {
     more: bool,
 }
 
-fn next(n: u64) -> u64 {
-    if n < u64::MAX { n + 1 } else { n }
-}
-
 // The end of a line.
 fn ended(
     r: Run,
@@ -39,7 +45,7 @@ fn ended(
     o: &mut Out,
 ) -> Run {
     let mut s = r;
-    s.number = next(r.number);
+    s.number = calls::next(r.number);
     if l.is_ignored() {
         return s;
     }
