@@ -2,7 +2,7 @@
 -- sent and the later contents of each lent buffer, call for call, however long a session lasts and however many there were before.
 -- The entry points' promises are this machine: `tick-is-the-machine` and the three after it. Assumes nothing.
 use Prim.Native.Nat.{ℕ, _+_, _*_}
-use mathlib.Core.Path.{_≡_, refl, sym, ap, _∙_}
+use mathlib.Core.Path.{_≡_, refl, ap}
 use mathlib.Core.Bool.{Bool, true, false, cond}
 use mathlib.Core.List.{List, [], _∷_, _++_}
 use borrow.Author.Tests.{eqb-true}
@@ -17,8 +17,7 @@ use Rattle.settings.specs.declared.Written.{Written}
 use Rattle.settings.specs.declared.SettingsRead.{SettingsRead}
 use Rattle.settings.specs.declared.SettingsRead.the-variants as read
 use Rattle.settings.specs.Read.{readOf, recordNumber}
-use Rattle.settings.specs.Write.{Wrote, writtenOf, laterOf}
-use Rattle.session.specs.declared.Session.{Session}
+use Rattle.settings.specs.Write.{Wrote}
 use Rattle.literal.proofs.InStep.{start-in-step}
 use Rattle.controller.specs.declared.Controller.{Controller}
 use Rattle.controller.specs.declared.Answer.{Answer}
@@ -28,7 +27,7 @@ use Rattle.controller.specs.declared.Ticked.{Ticked}
 use Rattle.controller.specs.Start.{freshOf, startWith, startOf, startNumber}
 use Rattle.controller.specs.Frame.{frameTo}
 use Rattle.controller.specs.Tick.{tickNumber, tickFrames, tickNext, accepted, TickIs}
-use Rattle.demands.specs.Machine.{Call, Read, Receive, Tick, Write, Box, Off, On, Seen, Nothing, Gave, paperNext, started, boxAfter, seenOf, run, boxAt}
+use Rattle.demands.specs.Machine.{Call, Read, Receive, Tick, Write, Box, Off, On, Gave, paperNext, started, boxAfter, seenOf, run, boxAt}
 use Rattle.demands.specs.InStep.{codeOf, codeBox, InStep}
 use Rattle.demands.proofs.Steps.{frame-steps, frames-step, next-steps}
 

@@ -1,13 +1,12 @@
 -- The insurer's first question: a frame ends a session only where it comes from the session's own station and is a CEM, or a CST AA in
 -- Stopping after an EST of ours; and it ends a charge only where it comes from that station and is CCS 00, CST or CEM. For every
 -- controller, identifier and data. Assumes nothing.
-use Prim.Native.Nat.{ℕ, _<_}
+use Prim.Native.Nat.{ℕ}
 use mathlib.Core.Path.{_≡_, refl, sym, ap, _∙_}
 use mathlib.Core.Bool.{Bool, true, false, not, cond, _&&_, false≢true}
 use mathlib.Core.List.{List}
 use borrow.Author.Tests.{eqb-true, ltb-true}
 use lib.Dec.{eqb, ltb}
-use Rattle.messages.specs.declared.received.Charge.the-variants as charge
 use Rattle.messages.specs.Identifier.{partsOf}
 use Rattle.settings.specs.declared.Settings.{Settings}
 use Rattle.charge_messages.specs.declared.ChargeMessage.{ChargeMessage}
@@ -20,7 +19,7 @@ use Rattle.controller.specs.declared.Controller.{Controller}
 use Rattle.controller.specs.declared.Answer.{Answer}
 use Rattle.controller.specs.Frame.{isIdle, mayCharge, listed, withSession, frameTo}
 use Rattle.demands.specs.Ends.{isCharging, isStopping, endsBy, leavesBy, Says, EndedBy, ByCem, ByCst, StoppedBy, AtCcs, AtCst, AtCem}
-use Rattle.demands.proofs.Came.{same, chargeOf, Came, Unmoved, Took, came}
+use Rattle.demands.proofs.Came.{chargeOf, Came, Unmoved, Took, came}
 use Rattle.demands.proofs.Messages.{ends-message, leaves-message}
 
 second : (t u v : Bool) → t ≡ false → cond t u v ≡ true → v ≡ true

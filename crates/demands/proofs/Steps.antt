@@ -1,14 +1,13 @@
 -- One call of the paper's machine beside one of the code's, from every controller. Assumes nothing.
 use Prim.Native.Nat.{ℕ, _+_, _/_, _%_}
-use mathlib.Core.Path.{_≡_, refl, sym, ap, _∙_}
+use mathlib.Core.Path.{_≡_, refl, ap}
 use mathlib.Core.Bool.{Bool, true, false, cond}
-use mathlib.Core.List.{List, [], _∷_, _++_}
+use mathlib.Core.List.{List}
 use native.Mathlib.Omega.{arith}
 use borrow.Author.Tests.{ltb-true, ltb-false}
-use lib.Dec.{ltb, leb}
+use lib.Dec.{ltb}
 use lib.IntN.{ℤ}
 use lib.ListN.{length}
-use Rattle.frames.specs.declared.Frame.{Frame}
 use Rattle.messages.specs.declared.received.Charge.{Charge}
 use Rattle.messages.specs.declared.received.Message.{Message}
 use Rattle.messages.specs.declared.received.Message.the-variants as message
@@ -20,22 +19,19 @@ use Rattle.readings.specs.declared.Readings.{Readings}
 use Rattle.settings.specs.declared.Versions.{Versions}
 use Rattle.cells.specs.declared.Cells.{Cells}
 use Rattle.cells.specs.Summaries.{cellsOf}
-use Rattle.charge_messages.specs.declared.ChargeMessage.{ChargeMessage}
 use Rattle.charge_messages.specs.declared.Content.{Content}
 use Rattle.charge_messages.specs.declared.Content.the-variants as content
 use Rattle.charge_messages.specs.Content.{contentOf}
 use Rattle.states.specs.declared.State.{State}
 use Rattle.states.specs.declared.State.the-variants.{Idle, Offered, Unverified, Parameters, Ready, Charging, Stopping, Error}
 use Rattle.session.specs.declared.Taken.{Taken}
-use Rattle.session.specs.Message.{messageOf}
-use Rattle.broadcasts.specs.Beat.{dueAt, heartbeatAt}
 use Rattle.broadcasts.specs.Sendings.{broadcastAt}
 use Rattle.literal.specs.Folds.{folds, foldState}
 use Rattle.literal.proofs.InStep.{tick-in-step, frames-in-step}
-use Rattle.literal.proofs.Outcomes.{foldTaken, message-folds}
+use Rattle.literal.proofs.Outcomes.{message-folds}
 use Rattle.controller.specs.declared.Controller.{Controller}
 use Rattle.controller.specs.declared.Answer.{Answer}
-use Rattle.controller.specs.Frame.{notCan, flagsSet, notForUs, badSource, isIdle, listed, mayCharge, withSession, contentTaken, chargeTo, withQueries, queryTo, messageTo, knownTo, frameTo, refused}
+use Rattle.controller.specs.Frame.{notCan, flagsSet, notForUs, badSource, isIdle, mayCharge, withSession, contentTaken, chargeTo, withQueries, queryTo, messageTo, knownTo, frameTo, refused}
 use Rattle.controller.specs.Tick.{tickFrames, chargeFrames, broadcastFrames, cellFrames, tickNext}
 use Rattle.demands.specs.Machine.{paperNext}
 use Rattle.demands.specs.InStep.{codeOf}

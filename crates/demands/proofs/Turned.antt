@@ -23,7 +23,6 @@ use Rattle.literal.specs.Literal.{older, grown, counted, literalIn, literalAdva
 use Rattle.controller.specs.Frame.{isIdle}
 use Rattle.demands.specs.Ends.{isCharging, isStopping}
 use Rattle.demands.specs.Stops.{beforeCharging, isClosing, isError, saysStop, phaseStops}
-use Rattle.demands.proofs.Came.{same}
 
 -- the state that a turn leads to
 unfoldable pub turnState : Turn → State
