@@ -5,7 +5,6 @@ use borrow.Author.Needs.{needs}
 use Rattle.queries.proofs.answering.row_of.Statement.{statement}
 use Rattle.queries.proofs.answering.row_of.Tie as tie
 
--- /work/wt-cells/target/rlib/messages.rlib/interface/lang/src/table.rt:2:35
 enum-told : tie.Need-enum-told
 enum-told c = search needs
 
@@ -15,7 +14,6 @@ array-copy-out-row-after c = search needs
 row-after-requires : tie.Need-row-after-requires
 row-after-requires c κs = omega (arith, rw (c .before .enum-told .given .1) at (c .before .before .before .pre))
 
--- /work/wt-cells/target/rlib/messages.rlib/interface/lang/src/table.rt:2:35
 enum-told-2 : tie.Need-enum-told-2
 enum-told-2 c = search needs
 
