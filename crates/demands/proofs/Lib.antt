@@ -1,3 +1,4 @@
 pub mod Apart
 pub mod Silent
 pub mod Unmoved
+pub mod Reach

@@ -2,3 +2,4 @@ pub mod Machine
 pub mod Apart
 pub mod Silent
 pub mod Unmoved
+pub mod Reach
