@@ -318,7 +318,7 @@ rest-open : (c : Controller) (es : List Event) → ended c ≡ false → rest c 
 unfolding rest
 rest-open c es o = rw o
 
-same-ended : (c d : Controller) → Alike c d → ended c ≡ ended d
+pub same-ended : (c d : Controller) → Alike c d → ended c ≡ ended d
 unfolding ended
 same-ended c d a = rw (a .session)
 
@@ -334,7 +334,7 @@ after-both c d es fs a f =
 back : (c d : Controller) → Alike c d → Alike d c
 back c d a = record { settings = sym (a .settings); session = sym (a .session) }
 
-then : (c d e : Controller) → Alike c d → Alike d e → Alike c e
+pub then : (c d e : Controller) → Alike c d → Alike d e → Alike c e
 then c d e a b = record { settings = a .settings ∙ b .settings; session = a .session ∙ b .session }
 
 Alone : ℕ → List Event → Type 0

@@ -10,3 +10,4 @@ pub mod Stops
 pub mod Apart
 pub mod Silent
 pub mod Unmoved
+pub mod Reach
