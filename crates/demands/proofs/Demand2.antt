@@ -31,6 +31,50 @@ use Rattle.demands.specs.Machine.{Call, Read, Receive, Tick, Write, Box,
 use Rattle.demands.specs.InStep.{codeOf, codeBox, InStep}
 use Rattle.demands.proofs.Steps.{frame-steps, frames-step, next-steps}
 
+-- The entry points are this machine. A tick's whole outcome, as `tick` promises it, is the machine's
+gave : (b : Bool) (n bytes : ℕ) (frames : List Frame) (new old : List ℕ) → eqb n 0 ≡ b
+    → cond b (Gave 0 bytes frames new) (Gave n 0 [] old) ≡ Gave n (cond b bytes 0) (cond b frames []) (cond b new old)
+gave true n bytes frames new old e = rw (eqb-true n 0 e)
+gave false n bytes frames new old e = refl
+
+pub tick-is-the-machine : (c : Controller) (r : Readings) (v : List ℕ) (t : List ℤ) (old new : List ℕ) (k : Ticked)
+    → TickIs c r v t old new k
+    → (seenOf tickNext (On c) (Tick r v t old) ≡ Gave (k .number) (k .bytes) (cond (accepted c r v t (length old)) (tickFrames c r v t) []) new)
+    × (boxAfter tickNext (On c) (Tick r v t old) ≡ On (k .controller))
+unfolding seenOf boxAfter accepted
+tick-is-the-machine c r v t old new k h = (
+  rw (h .number, h .bytes, h .later)
+      (gave (eqb (tickNumber r v t (length old)) 0) (tickNumber r v t (length old)) (13 * length (tickFrames c r v t)) (tickFrames c r v t)
+      (recordsOf (tickFrames c r v t) ++ drop (13 * length (tickFrames c r v t)) old) old refl),
+  rw (h .next),
+)
+
+-- as `frame` promises it
+pub frame-is-the-machine : (c : Controller) (id : ℕ) (s : List ℕ) (a : Answer) → a ≡ frameTo c id s
+    → (seenOf tickNext (On c) (Receive id s) ≡ Gave (a .number) 0 [] []) × (boxAfter tickNext (On c) (Receive id s) ≡ On (a .controller))
+unfolding seenOf boxAfter
+frame-is-the-machine c id s a h = (rw h, rw h)
+
+-- as `read` promises it: the number; a controller that is made is the one in use, and a refusal leaves the one in use
+pub read-is-the-machine : (b : Box) (s : List ℕ) (a : Start) → startNumber a ≡ recordNumber s → a ≡ startOf s
+    → (seenOf tickNext b (Read s) ≡ Gave (startNumber a) 0 [] []) × (boxAfter tickNext b (Read s) ≡ started a b)
+unfolding seenOf boxAfter
+read-is-the-machine b s a n h = (rw n, rw h)
+
+pub made-is-in-use : (b : Box) (c : Controller) → started (Made c) b ≡ On c
+unfolding started
+made-is-in-use b c = refl
+
+pub refused-stays : (b : Box) (n : ℕ) → started (Refused n) b ≡ b
+unfolding started
+refused-stays b n = refl
+
+-- and as `write` promises it
+pub write-is-the-machine : (c : Controller) (old new : List ℕ) (w : Written) → Wrote (c .settings) old new w
+    → (seenOf tickNext (On c) (Write old) ≡ Gave (w .number) (w .bytes) [] new) × (boxAfter tickNext (On c) (Write old) ≡ On c)
+unfolding seenOf boxAfter
+write-is-the-machine c old new w h = (rw (h .answer, h .later), refl)
+
 -- A received frame, from every controller: the same number, and the next controllers are in step
 pub frame-in-step : (c : Controller) (id : ℕ) (s : List ℕ)
     → (frameTo c id s .number ≡ frameTo (codeOf c) id s .number) × (codeOf (frameTo c id s .controller) ≡ frameTo (codeOf c) id s .controller)
@@ -98,47 +142,3 @@ box-from b (k ∷ ks) = rw (← after-in-step b k) (box-from (boxAfter paperNext
 pub demand-2 : (ks : List Call) → (run paperNext Off ks ≡ run tickNext Off ks) × InStep (boxAt paperNext Off ks) (boxAt tickNext Off ks)
 unfolding codeBox
 demand-2 ks = (run-from Off ks, box-from Off ks)
-
--- The entry points are this machine. A tick's whole outcome, as `tick` promises it, is the machine's
-gave : (b : Bool) (n bytes : ℕ) (frames : List Frame) (new old : List ℕ) → eqb n 0 ≡ b
-    → cond b (Gave 0 bytes frames new) (Gave n 0 [] old) ≡ Gave n (cond b bytes 0) (cond b frames []) (cond b new old)
-gave true n bytes frames new old e = rw (eqb-true n 0 e)
-gave false n bytes frames new old e = refl
-
-pub tick-is-the-machine : (c : Controller) (r : Readings) (v : List ℕ) (t : List ℤ) (old new : List ℕ) (k : Ticked)
-    → TickIs c r v t old new k
-    → (seenOf tickNext (On c) (Tick r v t old) ≡ Gave (k .number) (k .bytes) (cond (accepted c r v t (length old)) (tickFrames c r v t) []) new)
-    × (boxAfter tickNext (On c) (Tick r v t old) ≡ On (k .controller))
-unfolding seenOf boxAfter accepted
-tick-is-the-machine c r v t old new k h = (
-  rw (h .number, h .bytes, h .later)
-      (gave (eqb (tickNumber r v t (length old)) 0) (tickNumber r v t (length old)) (13 * length (tickFrames c r v t)) (tickFrames c r v t)
-      (recordsOf (tickFrames c r v t) ++ drop (13 * length (tickFrames c r v t)) old) old refl),
-  rw (h .next),
-)
-
--- as `frame` promises it
-pub frame-is-the-machine : (c : Controller) (id : ℕ) (s : List ℕ) (a : Answer) → a ≡ frameTo c id s
-    → (seenOf tickNext (On c) (Receive id s) ≡ Gave (a .number) 0 [] []) × (boxAfter tickNext (On c) (Receive id s) ≡ On (a .controller))
-unfolding seenOf boxAfter
-frame-is-the-machine c id s a h = (rw h, rw h)
-
--- as `read` promises it: the number; a controller that is made is the one in use, and a refusal leaves the one in use
-pub read-is-the-machine : (b : Box) (s : List ℕ) (a : Start) → startNumber a ≡ recordNumber s → a ≡ startOf s
-    → (seenOf tickNext b (Read s) ≡ Gave (startNumber a) 0 [] []) × (boxAfter tickNext b (Read s) ≡ started a b)
-unfolding seenOf boxAfter
-read-is-the-machine b s a n h = (rw n, rw h)
-
-pub made-is-in-use : (b : Box) (c : Controller) → started (Made c) b ≡ On c
-unfolding started
-made-is-in-use b c = refl
-
-pub refused-stays : (b : Box) (n : ℕ) → started (Refused n) b ≡ b
-unfolding started
-refused-stays b n = refl
-
--- and as `write` promises it
-pub write-is-the-machine : (c : Controller) (old new : List ℕ) (w : Written) → Wrote (c .settings) old new w
-    → (seenOf tickNext (On c) (Write old) ≡ Gave (w .number) (w .bytes) [] new) × (boxAfter tickNext (On c) (Write old) ≡ On c)
-unfolding seenOf boxAfter
-write-is-the-machine c old new w h = (rw (h .answer, h .later), refl)
