@@ -20,12 +20,12 @@ use Rattle.cells.specs.declared.Cells.{Cells}
 use Rattle.cells.specs.Summaries.{cellsOf}
 use Rattle.charge_messages.specs.declared.Offer.{Offer}
 use Rattle.charge_messages.specs.declared.ChargeMessage.{ChargeMessage}
-use Rattle.charge_messages.specs.declared.ChargeMessage.the-variants.{Cvm, Cmp, Crm}
+use Rattle.charge_messages.specs.declared.ChargeMessage.the-variants.{Cim, Cvm, Cmp, Crm}
 use Rattle.phases.specs.Phases.{startPhase}
 use Rattle.states.specs.declared.State.{State}
 use Rattle.states.specs.declared.State.the-variants.{Idle, Offered, Unverified, Parameters, Ready, Charging, Stopping, Error}
 use Rattle.outcomes.specs.Offer.{acceptedOf, stationMost}
-use Rattle.outcomes.specs.Message.{outcomeOf, inOffered, inParameters, inReady, readyOf, crmOf}
+use Rattle.outcomes.specs.Message.{outcomeOf, inIdle, inOffered, inParameters, inReady, readyOf, crmOf}
 use Rattle.turns.specs.Turns.{waitingOf, turnOf}
 use Rattle.session.specs.declared.Session.{Session}
 use Rattle.session.specs.Message.{sessionAfter, appliedOf, messageOf}
@@ -269,3 +269,23 @@ module _ (x : Settings) (st : ℕ) (o : Offer) (yes-rule : acceptedOf x o ≡ tr
       ap (λ (z : Session). z .state)
       (alone st es c c (record { settings = refl; session = refl }) (ap (λ (z : Session). z .station) h) (open-in c st 0 0 Offered (is-before .0) h) (y .stays))
       ∙ y .last
+
+-- a listed station's CIM, taken in Idle, is such a beginning
+cim-frame : (c : Controller) (st id : ℕ) (s : List ℕ) → isIdle (c .session .state) ≡ true → listed st (c .settings .stations) ≡ true
+    → Says (c .settings) st Cim id s → frameTo c id s .controller .session ≡ messageOf (c .settings) st (c .session) Cim .session
+unfolding frameTo knownTo messageTo chargeTo mayCharge contentTaken withSession
+cim-frame c st id s o l h = rw (h .can, h .flags, h .target, h .other, h .pf, h .long, o, h .source, l, h .content)
+
+cim-opened : (x : Settings) (a : ℕ) (s : Session) (z : State) → z ≡ Idle → sessionAfter a s (outcomeOf x z (s .count) Cim) ≡ mk a 0 0 Offered
+unfolding sessionAfter outcomeOf inIdle
+cim-opened x a s z i = ap (λ (y : State). sessionAfter a s (outcomeOf x y (s .count) Cim)) i
+
+idle-is : (st : State) → st ≡ Idle → isIdle st ≡ true
+unfolding isIdle
+idle-is st i = ap isIdle i
+
+pub cim-opens : (c : Controller) (st id : ℕ) (s : List ℕ) → c .session .state ≡ Idle → listed st (c .settings .stations) ≡ true
+    → Says (c .settings) st Cim id s → after c (Came id s) .session ≡ mk st 0 0 Offered
+unfolding after messageOf appliedOf
+cim-opens c st id s i l h =
+    cim-frame c st id s (idle-is (c .session .state) i) l h ∙ cim-opened (c .settings) st (c .session) (c .session .state) i
