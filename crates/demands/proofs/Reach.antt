@@ -37,7 +37,8 @@ use Rattle.controller.specs.Frame.{isIdle, listed, mayCharge, withSession, cont
 use Rattle.demands.specs.Machine.{paperNext}
 use Rattle.demands.specs.Apart.{Event, Came, Beaten, Wrote, accepts, after, afterAll, ended, reaches, heard, Alike}
 use Rattle.demands.specs.Silent.{ticked, ticksIn, endsWithin}
-use Rattle.demands.specs.Reach.{Says, waits, allWait}
+use Rattle.demands.specs.Says.{Says}
+use Rattle.demands.specs.Reach.{waits, allWait}
 use Rattle.demands.proofs.Apart.{unreached, kept-open, kept-settings, alike-event, same-ended, then}
 
 abbrev mk : ℕ → ℕ → ℕ → State → Session

@@ -1,6 +1,7 @@
 pub mod Machine
 pub mod InStep
 pub mod WorkedRows
+pub mod Says
 pub mod Ends
 pub mod Over
 pub mod Stops

@@ -1,0 +1,41 @@
+-- A frame, identifier and data, by which a source says a charge message: none of the checks 3 to 8 refuses it, and its content is allowed, so
+-- 10 does not either (01, "Numbers returned"). Whether the source may say it, 9, and whether it is in step, 11, is the controller's part.
+use Prim.Native.Nat.{ℕ}
+use mathlib.Core.Path.{_≡_}
+use mathlib.Core.Bool.{false}
+use mathlib.Core.List.{List}
+use lib.Dec.{ltb}
+use lib.ListN.{length}
+use Rattle.messages.specs.declared.received.Charge.{Charge}
+use Rattle.messages.specs.declared.received.Charge.the-variants as charge
+use Rattle.messages.specs.declared.received.Message.the-variants as message
+use Rattle.messages.specs.declared.received.Recognized.the-variants.{As}
+use Rattle.messages.specs.Identifier.{partsOf}
+use Rattle.messages.specs.Received.{recognizedOf, rowOf}
+use Rattle.settings.specs.declared.Settings.{Settings}
+use Rattle.charge_messages.specs.declared.ChargeMessage.{ChargeMessage}
+use Rattle.charge_messages.specs.declared.ChargeMessage.the-variants.{Cim, Cvm, Cmp, Crm, Ccs, Cst, Cem}
+use Rattle.charge_messages.specs.declared.Content.the-variants.{Allowed}
+use Rattle.charge_messages.specs.Content.{contentOf}
+use Rattle.controller.specs.Frame.{notCan, flagsSet, notForUs, badSource}
+
+-- the row of the table that a message has
+abbrev pub chargeOf : ChargeMessage → Charge
+chargeOf Cim = charge.Cim
+chargeOf (Cvm b) = charge.Cvm
+chargeOf (Cmp o) = charge.Cmp
+chargeOf (Crm b) = charge.Crm
+chargeOf (Ccs b) = charge.Ccs
+chargeOf (Cst b) = charge.Cst
+chargeOf Cem = charge.Cem
+
+-- the source `st` says `m` to a controller with the settings `x`
+pub record Says (x : Settings) (st : ℕ) (m : ChargeMessage) (id : ℕ) (s : List ℕ) : Type 0 where
+  pub can : notCan id s ≡ false
+  pub flags : flagsSet (partsOf id) ≡ false
+  pub target : notForUs (x .own) (partsOf id) ≡ false
+  pub other : badSource (x .own) (partsOf id) ≡ false
+  pub source : partsOf id .source ≡ st
+  pub pf : recognizedOf (partsOf id .pf) ≡ As (message.Charge (chargeOf m))
+  pub long : ltb (length s) (rowOf (message.Charge (chargeOf m)) .2) ≡ false
+  pub content : contentOf (chargeOf m) s ≡ Allowed m
