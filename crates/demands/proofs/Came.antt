@@ -1,4 +1,5 @@
--- What a frame comes to: the session is as it was and no charge message has number 0, or the session took its message. Assumes nothing.
+-- What a frame comes to: the session is as it was and no charge message has number 0, or none of the checks refuses the frame and the session
+-- takes its message. Assumes nothing.
 use Prim.Native.Nat.{ℕ}
 use mathlib.Core.Path.{_≡_, refl, sym, ap, _∙_}
 use mathlib.Core.Bool.{Bool, true, false, cond, _&&_, false≢true}
@@ -22,22 +23,12 @@ use Rattle.session.specs.Message.{messageOf}
 use Rattle.controller.specs.declared.Controller.{Controller}
 use Rattle.controller.specs.declared.Answer.{Answer}
 use Rattle.controller.specs.Frame.{refused, notCan, flagsSet, notForUs, badSource, mayCharge, withSession, contentTaken, chargeTo, withQueries, queryTo, messageTo, knownTo, frameTo}
-use Rattle.demands.specs.Ends.{Says}
+use Rattle.demands.specs.Says.{chargeOf, Says}
 
 -- both ways of a test come to the same
 pub same : {A B : Type 0} (f : A → B) (t : Bool) {x y : A} {z : B} → f x ≡ z → f y ≡ z → f (cond t x y) ≡ z
 same f true h k = h
 same f false h k = k
-
--- the charge message that has a content
-abbrev pub chargeOf : ChargeMessage → Charge
-chargeOf Cim = charge.Cim
-chargeOf (Cvm b) = charge.Cvm
-chargeOf (Cmp o) = charge.Cmp
-chargeOf (Crm b) = charge.Crm
-chargeOf (Ccs b) = charge.Ccs
-chargeOf (Cst b) = charge.Cst
-chargeOf Cem = charge.Cem
 
 unfoldable kindIn : Charge → Content → Charge
 kindIn k (content.Allowed m) = chargeOf m
@@ -71,56 +62,90 @@ ten-in charge.Ccs s = same tenIn (eqb (getD s 4 0) 0x01) refl (same tenIn (eqb (
 ten-in charge.Cst s = same tenIn (eqb (getD s 2 0) 0xaa) refl (same tenIn (eqb (getD s 2 0) 0x00) refl refl)
 ten-in charge.Cem s = same tenIn (eqb (getD s 2 0) 0xaa) refl (same tenIn (eqb (getD s 2 0) 0x00) refl refl)
 
--- a message says what its content is of
-pub says-kind : (id : ℕ) (s : List ℕ) (k : Charge) (m : ChargeMessage) → Says id s k m → Says id s (chargeOf m) m
+-- the kind of a message is that of its content
+kind-of : (k : Charge) (s : List ℕ) (m : ChargeMessage) → contentOf k s ≡ content.Allowed m → chargeOf m ≡ k
 unfolding kindIn
-says-kind id s k m h =
-    let e : chargeOf m ≡ k = ap (kindIn k) (sym (h .content)) ∙ kind-in k s in
-    record { pf = rw e (h .pf); content = rw e (h .content) }
+kind-of k s m h = ap (kindIn k) (sym h) ∙ kind-in k s
 
 unfoldable isCharge : Recognized → Bool
 isCharge (recognized.As (message.Charge k)) = true
 isCharge (recognized.As (message.Query q)) = false
 isCharge (recognized.Refused n) = false
 
-pub data Came (c : Controller) (id : ℕ) (s : List ℕ) (a : Answer) : Type 0 where
+-- a frame that none of the checks 3 to 6 refuses
+record Passed (c : Controller) (id : ℕ) (s : List ℕ) : Type 0 where
+  can : notCan id s ≡ false
+  flags : flagsSet (partsOf id) ≡ false
+  target : notForUs (c .settings .own) (partsOf id) ≡ false
+  other : badSource (c .settings .own) (partsOf id) ≡ false
+
+pub data Comes (c : Controller) (id : ℕ) (s : List ℕ) (a : Answer) : Type 0 where
   Unmoved : a .controller .session ≡ c .session
       → ((k : Charge) → recognizedOf (partsOf id .pf) ≡ recognized.As (message.Charge k) → a .number ≡ 0 → ⊥)
-      → Came c id s a
-  Took : (m : ChargeMessage) → Says id s (chargeOf m) m → mayCharge c (partsOf id .source) ≡ true
+      → Comes c id s a
+  Took : (m : ChargeMessage) → Says (c .settings) (partsOf id .source) m id s → mayCharge c (partsOf id .source) ≡ true
       → a ≡ withSession c (messageOf (c .settings) (partsOf id .source) (c .session) m)
-      → Came c id s a
+      → Comes c id s a
 
 module _ (c : Controller) (id : ℕ) (s : List ℕ) where
-  refusal : (n : ℕ) → (n ≡ 0 → ⊥) → Came c id s (refused n c)
+  refusal : (n : ℕ) → (n ≡ 0 → ⊥) → Comes c id s (refused n c)
   refusal n h = Unmoved refl (λ k e z. h z)
 
-  pick : (t : Bool) {a b : Answer} → (t ≡ true → Came c id s a) → (t ≡ false → Came c id s b) → Came c id s (cond t a b)
+  pick : (t : Bool) {a b : Answer} → (t ≡ true → Comes c id s a) → (t ≡ false → Comes c id s b) → Comes c id s (cond t a b)
   pick true h k = h refl
   pick false h k = k refl
 
-  content-came : (k : Charge) (m : Content) → recognizedOf (partsOf id .pf) ≡ recognized.As (message.Charge k)
-      → mayCharge c (partsOf id .source) ≡ true → contentOf k s ≡ m → Came c id s (contentTaken c (partsOf id .source) m)
+  content-says : Passed c id s → (k : Charge) (m : ChargeMessage) → recognizedOf (partsOf id .pf) ≡ recognized.As (message.Charge k)
+      → ltb (length s) (rowOf (message.Charge k) .2) ≡ false → contentOf k s ≡ content.Allowed m
+      → Says (c .settings) (partsOf id .source) m id s
+  content-says p k m h long e =
+      let q : chargeOf m ≡ k = kind-of k s m e in
+      record {
+        can = p .can;
+        flags = p .flags;
+        target = p .target;
+        other = p .other;
+        source = refl;
+        pf = rw q h;
+        long = rw q long;
+        content = rw q e;
+      }
+
+  content-came : Passed c id s → (k : Charge) (m : Content) → recognizedOf (partsOf id .pf) ≡ recognized.As (message.Charge k)
+      → ltb (length s) (rowOf (message.Charge k) .2) ≡ false → mayCharge c (partsOf id .source) ≡ true → contentOf k s ≡ m
+      → Comes c id s (contentTaken c (partsOf id .source) m)
   unfolding contentTaken tenIn
-  content-came k (content.Allowed m) h may e = Took m (says-kind id s k m (record { pf = h; content = e })) may refl
-  content-came k (content.Refused n) h may e =
+  content-came p k (content.Allowed m) h long may e = Took m (content-says p k m h long e) may refl
+  content-came p k (content.Refused n) h long may e =
       refusal n (λ z. let t : n ≡ 10 = ap tenIn (sym e) ∙ ten-in k s in omega (arith, z, t))
 
-  known-came : (r : Recognized) → recognizedOf (partsOf id .pf) ≡ r → Came c id s (knownTo c (partsOf id .source) r s)
+  known-came : Passed c id s → (r : Recognized) → recognizedOf (partsOf id .pf) ≡ r → Comes c id s (knownTo c (partsOf id .source) r s)
   unfolding knownTo messageTo chargeTo queryTo withQueries isCharge
-  known-came (recognized.As (message.Charge k)) h =
+  known-came p (recognized.As (message.Charge k)) h =
       pick (ltb (length s) (rowOf (message.Charge k) .2)) (λ t. refusal 8 (λ z. omega (arith, z)))
-      (λ t. pick (mayCharge c (partsOf id .source)) (λ may. content-came k (contentOf k s) h may refl) (λ f. refusal 9 (λ z. omega (arith, z))))
-  known-came (recognized.As (message.Query q)) h =
+      (λ long. pick (mayCharge c (partsOf id .source)) (λ may. content-came p k (contentOf k s) h long may refl)
+      (λ f. refusal 9 (λ z. omega (arith, z))))
+  known-came p (recognized.As (message.Query q)) h =
       pick (ltb (length s) (rowOf (message.Query q) .2)) (λ t. refusal 8 (λ z. omega (arith, z)))
       (λ t. Unmoved refl (λ k e z. false≢true (ap isCharge (sym h ∙ e))))
-  known-came (recognized.Refused n) h = Unmoved refl (λ k e z. false≢true (ap isCharge (sym h ∙ e)))
+  known-came p (recognized.Refused n) h = Unmoved refl (λ k e z. false≢true (ap isCharge (sym h ∙ e)))
 
-  pub came : Came c id s (frameTo c id s)
+  pub came : Comes c id s (frameTo c id s)
   unfolding frameTo
   came =
       pick (notCan id s) (λ t. refusal 3 (λ z. omega (arith, z)))
       (λ t. pick (flagsSet (partsOf id)) (λ u. refusal 4 (λ z. omega (arith, z)))
       (λ u. pick (notForUs (c .settings .own) (partsOf id)) (λ w. refusal 5 (λ z. omega (arith, z)))
       (λ w. pick (badSource (c .settings .own) (partsOf id)) (λ x. refusal 6 (λ z. omega (arith, z)))
-      (λ x. known-came (recognizedOf (partsOf id .pf)) refl))))
+      (λ x. known-came (record { can = t; flags = u; target = w; other = x }) (recognizedOf (partsOf id .pf)) refl))))
+
+  -- and the other way: what a source that may charge says, the session takes
+  pub says-taken : (st : ℕ) (m : ChargeMessage) → Says (c .settings) st m id s → mayCharge c st ≡ true
+      → frameTo c id s ≡ withSession c (messageOf (c .settings) st (c .session) m)
+  unfolding frameTo knownTo messageTo chargeTo contentTaken
+  says-taken st m h may = rw (h .can, h .flags, h .target, h .other, h .pf, h .long, h .source, may, h .content)
+
+  -- and what one that may not says is refused with 9
+  pub says-refused : (st : ℕ) (m : ChargeMessage) → Says (c .settings) st m id s → mayCharge c st ≡ false → frameTo c id s ≡ refused 9 c
+  unfolding frameTo knownTo messageTo chargeTo
+  says-refused st m h may = rw (h .can, h .flags, h .target, h .other, h .pf, h .long, h .source, may)

@@ -3,6 +3,7 @@ pub mod Demand2
 pub mod WorkedRows
 pub mod Came
 pub mod Messages
+pub mod Gone
 pub mod Ends
 pub mod Over
 pub mod Turned

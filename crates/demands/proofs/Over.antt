@@ -1,6 +1,6 @@
 -- What a frame means once its session is over: in Idle, whoever sends it and whatever it holds, it is a well-formed CIM from a listed station
 -- and opens a session with that station, or it leaves the session as it was; and a charge message that is no such CIM is refused by
--- number. Assumes nothing.
+-- number. And each such CIM opens one. Assumes nothing.
 use Prim.Native.Nat.{ℕ}
 use mathlib.Core.Logic.{_⊎_, inl, inr}
 use mathlib.Core.Path.{_≡_, refl, sym, ap, _∙_}
@@ -8,10 +8,6 @@ use mathlib.Core.Bool.{Bool, true, false, cond, false≢true}
 use mathlib.Core.List.{List}
 use native.Mathlib.Omega.{arith}
 use lib.Dec.{eqb}
-use Rattle.messages.specs.declared.received.Charge.the-variants as charge
-use Rattle.messages.specs.declared.received.Message.the-variants as message
-use Rattle.messages.specs.declared.received.Recognized.{Recognized}
-use Rattle.messages.specs.declared.received.Recognized.the-variants as recognized
 use Rattle.messages.specs.Identifier.{partsOf}
 use Rattle.charge_messages.specs.declared.ChargeMessage.{ChargeMessage}
 use Rattle.charge_messages.specs.declared.ChargeMessage.the-variants.{Cim, Cvm, Cmp, Crm, Ccs, Cst, Cem}
@@ -21,10 +17,10 @@ use Rattle.outcomes.specs.Message.{outcomeOf, inIdle}
 use Rattle.session.specs.Message.{sessionAfter, appliedOf, messageOf}
 use Rattle.controller.specs.declared.Controller.{Controller}
 use Rattle.controller.specs.declared.Answer.{Answer}
-use Rattle.controller.specs.Frame.{isIdle, mayCharge, listed, withSession, frameTo}
-use Rattle.demands.specs.Ends.{Says}
+use Rattle.controller.specs.Frame.{refused, isIdle, mayCharge, listed, withSession, frameTo}
+use Rattle.demands.specs.Says.{Says}
 use Rattle.demands.specs.Over.{openedWith, Opens, Ignored}
-use Rattle.demands.proofs.Came.{chargeOf, Came, Unmoved, Took, came}
+use Rattle.demands.proofs.Came.{Comes, Unmoved, Took, came, says-taken, says-refused}
 
 first : (t u v : Bool) → t ≡ true → cond t u v ≡ true → u ≡ true
 first true u v h e = e
@@ -35,17 +31,6 @@ listed-is : (c : Controller) (source : ℕ) → c .session .state ≡ Idle → m
 unfolding mayCharge isIdle
 listed-is c source h e =
     first (isIdle (c .session .state)) (listed source (c .settings .stations)) (eqb source (c .session .station)) (ap isIdle h) e
-
-unfoldable isCim : Recognized → Bool
-isCim (recognized.As (message.Charge charge.Cim)) = true
-isCim (recognized.As (message.Charge charge.Cvm)) = false
-isCim (recognized.As (message.Charge charge.Cmp)) = false
-isCim (recognized.As (message.Charge charge.Crm)) = false
-isCim (recognized.As (message.Charge charge.Ccs)) = false
-isCim (recognized.As (message.Charge charge.Cst)) = false
-isCim (recognized.As (message.Charge charge.Cem)) = false
-isCim (recognized.As (message.Query q)) = false
-isCim (recognized.Refused n) = false
 
 module _ (c : Controller) (id : ℕ) (s : List ℕ) (h : c .session .state ≡ Idle) where
   abbrev taken : ChargeMessage → Answer
@@ -74,7 +59,7 @@ module _ (c : Controller) (id : ℕ) (s : List ℕ) (h : c .session .state ≡ I
         number = λ n r z. let t : frameTo c id s .number ≡ 11 = ap (λ (a : Answer). a .number) k ∙ kept-11 m e in omega (arith, z, t);
       }
 
-  by-message : (m : ChargeMessage) → Says id s (chargeOf m) m → mayCharge c (partsOf id .source) ≡ true → frameTo c id s ≡ taken m
+  by-message : (m : ChargeMessage) → Says (c .settings) (partsOf id .source) m id s → mayCharge c (partsOf id .source) ≡ true → frameTo c id s ≡ taken m
       → Opens c id s ⊎ Ignored c id s
   unfolding inIdle
   by-message Cim says may k = inl
@@ -91,7 +76,7 @@ module _ (c : Controller) (id : ℕ) (s : List ℕ) (h : c .session .state ≡ I
   by-message (Cst b) says may k = inr (ignored (Cst b) k refl)
   by-message Cem says may k = inr (ignored Cem k refl)
 
-  by-came : Came c id s (frameTo c id s) → Opens c id s ⊎ Ignored c id s
+  by-came : Comes c id s (frameTo c id s) → Opens c id s ⊎ Ignored c id s
   by-came (Unmoved k n) = inr (record { session = k; number = n })
   by-came (Took m says may k) = by-message m says may k
 
@@ -99,13 +84,33 @@ module _ (c : Controller) (id : ℕ) (s : List ℕ) (h : c .session .state ≡ I
   pub over : Opens c id s ⊎ Ignored c id s
   over = by-came (came c id s)
 
-  acknowledged : Says id s charge.Cst (Cst true) → Opens c id s ⊎ Ignored c id s
-      → (frameTo c id s .controller .session ≡ c .session) × (frameTo c id s .number ≡ 0 → ⊥)
-  unfolding isCim
-  acknowledged says (inl o) = absurd (false≢true (ap isCim (sym (says .pf) ∙ o .cim .pf)))
-  acknowledged says (inr g) = (g .session, g .number charge.Cst (says .pf))
+  may-is : (source : ℕ) → mayCharge c source ≡ listed source (c .settings .stations)
+  unfolding mayCharge isIdle
+  may-is source = rw h
 
-  -- a CST AA that is sent again once its session is over, whoever sends it
-  pub replayed-acknowledgement : Says id s charge.Cst (Cst true)
-      → (frameTo c id s .controller .session ≡ c .session) × (frameTo c id s .number ≡ 0 → ⊥)
-  replayed-acknowledgement says = acknowledged says over
+  -- and each well-formed CIM from a listed station opens one
+  pub each-opens : Says (c .settings) (partsOf id .source) Cim id s → listed (partsOf id .source) (c .settings .stations) ≡ true → Opens c id s
+  each-opens says l =
+      let k : frameTo c id s ≡ taken Cim = says-taken c id s (partsOf id .source) Cim says (may-is (partsOf id .source) ∙ l) in
+      record {
+        cim = says;
+        station = l;
+        number = ap (λ (a : Answer). a .number) k ∙ opened-0;
+        session = ap (λ (a : Answer). a .controller .session) k ∙ opened;
+      }
+
+  -- what else a source says, it says in vain: 11 where it is a listed station, 9 where it is not, and nothing is changed
+  module _ (source : ℕ) (m : ChargeMessage) (says : Says (c .settings) source m id s) (refuses : inIdle m ≡ Refuse) where
+    refused-11 : withSession c (messageOf (c .settings) source (c .session) m) ≡ refused 11 c
+    unfolding withSession messageOf appliedOf outcomeOf sessionAfter
+    refused-11 = rw (h, refuses)
+
+    in-vain : (l : Bool) → listed source (c .settings .stations) ≡ l → frameTo c id s ≡ refused (cond l 11 9) c
+    in-vain true e = says-taken c id s source m says (may-is source ∙ e) ∙ refused-11
+    in-vain false e = says-refused c id s source m says (may-is source ∙ e)
+
+  -- THE INCIDENT: an acknowledgement that is sent again once its session is over, whoever sends it
+  pub replayed-acknowledgement : (source : ℕ) → Says (c .settings) source (Cst true) id s
+      → frameTo c id s ≡ refused (cond (listed source (c .settings .stations)) 11 9) c
+  unfolding inIdle
+  replayed-acknowledgement source says = in-vain source (Cst true) says refl (listed source (c .settings .stations)) refl

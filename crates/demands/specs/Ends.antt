@@ -1,23 +1,16 @@
 -- The insurer's first question: what can end a session, and what can end a charge? The vocabulary of proofs/Ends.antt, after 01, "Session
 -- by message".
-use Prim.Native.Nat.{ℕ, _<_}
+use Prim.Native.Nat.{ℕ}
 use mathlib.Core.Path.{_≡_}
 use mathlib.Core.Bool.{Bool, true, false, not, _&&_}
 use mathlib.Core.List.{List}
 use lib.Dec.{ltb}
-use Rattle.messages.specs.declared.received.Charge.{Charge}
-use Rattle.messages.specs.declared.received.Charge.the-variants as charge
-use Rattle.messages.specs.declared.received.Message.the-variants as message
-use Rattle.messages.specs.declared.received.Recognized.the-variants.{As}
-use Rattle.messages.specs.Identifier.{partsOf}
-use Rattle.messages.specs.Received.{recognizedOf}
 use Rattle.charge_messages.specs.declared.ChargeMessage.{ChargeMessage}
 use Rattle.charge_messages.specs.declared.ChargeMessage.the-variants.{Cim, Cvm, Cmp, Crm, Ccs, Cst, Cem}
-use Rattle.charge_messages.specs.declared.Content.the-variants.{Allowed}
-use Rattle.charge_messages.specs.Content.{contentOf}
 use Rattle.states.specs.declared.State.{State}
 use Rattle.states.specs.declared.State.the-variants.{Idle, Offered, Unverified, Parameters, Ready, Charging, Stopping, Error}
 use Rattle.controller.specs.declared.Controller.{Controller}
+use Rattle.demands.specs.Says.{Says}
 
 unfoldable pub isCharging : State → Bool
 isCharging Idle = false
@@ -60,18 +53,14 @@ leavesBy (Ccs b) = not b
 leavesBy (Cst b) = true
 leavesBy Cem = true
 
--- the frame's PF is that of this charge message, and its data have this content
-pub record Says (id : ℕ) (s : List ℕ) (k : Charge) (m : ChargeMessage) : Type 0 where
-  pub pf : recognizedOf (partsOf id .pf) ≡ As (message.Charge k)
-  pub content : contentOf k s ≡ Allowed m
+-- a frame ends a session: it comes from the session's station, no check refuses it, and it is a CEM; or it is a CST AA, the session is in
+-- Stopping, and an EST of ours has gone out since Stopping began
+pub data EndedBy (gone : Bool) (c : Controller) (id : ℕ) (s : List ℕ) : Type 0 where
+  ByCem : Says (c .settings) (c .session .station) Cem id s → EndedBy gone c id s
+  ByCst : Says (c .settings) (c .session .station) (Cst true) id s → isStopping (c .session .state) ≡ true → gone ≡ true → EndedBy gone c id s
 
--- a frame ends a session as a CEM; or as a CST AA in Stopping at a count above 0, that is once an EST has gone out
-pub data EndedBy (c : Controller) (id : ℕ) (s : List ℕ) : Type 0 where
-  ByCem : Says id s charge.Cem Cem → EndedBy c id s
-  ByCst : Says id s charge.Cst (Cst true) → isStopping (c .session .state) ≡ true → 0 < c .session .count → EndedBy c id s
-
--- a frame ends a charge as CCS 00, as CST of either value, or as CEM
-pub data StoppedBy (id : ℕ) (s : List ℕ) : Type 0 where
-  AtCcs : Says id s charge.Ccs (Ccs false) → StoppedBy id s
-  AtCst : (b : Bool) → Says id s charge.Cst (Cst b) → StoppedBy id s
-  AtCem : Says id s charge.Cem Cem → StoppedBy id s
+-- a frame ends a charge: it comes from the session's station, no check refuses it, and it is CCS 00, CST of either value, or CEM
+pub data StoppedBy (c : Controller) (id : ℕ) (s : List ℕ) : Type 0 where
+  AtCcs : Says (c .settings) (c .session .station) (Ccs false) id s → StoppedBy c id s
+  AtCst : (b : Bool) → Says (c .settings) (c .session .station) (Cst b) id s → StoppedBy c id s
+  AtCem : Says (c .settings) (c .session .station) Cem id s → StoppedBy c id s

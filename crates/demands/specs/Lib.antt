@@ -6,6 +6,7 @@ pub mod Ends
 pub mod Over
 pub mod Stops
 pub mod Apart
+pub mod Gone
 pub mod Silent
 pub mod Unmoved
 pub mod Reach

@@ -89,3 +89,12 @@ module _ (next : Controller → Readings → List ℕ → List ℤ → Controlle
   unfoldable pub boxAt : Box → List Call → Box
   boxAt b [] = b
   boxAt b (k ∷ ks) = boxAt (boxAfter b k) ks
+
+-- the number that a call gave, and the frames that it sent; where there was nothing to call, none
+unfoldable pub numberSeen : Seen → ℕ
+numberSeen Nothing = 0
+numberSeen (Gave n bytes frames later) = n
+
+unfoldable pub framesSeen : Seen → List Frame
+framesSeen Nothing = []
+framesSeen (Gave n bytes frames later) = frames

@@ -5,7 +5,6 @@ use mathlib.Core.Path.{_≡_}
 use mathlib.Core.Bool.{true}
 use mathlib.Core.List.{List}
 use Rattle.messages.specs.declared.received.Charge.{Charge}
-use Rattle.messages.specs.declared.received.Charge.the-variants as charge
 use Rattle.messages.specs.declared.received.Message.the-variants as message
 use Rattle.messages.specs.declared.received.Recognized.the-variants.{As}
 use Rattle.messages.specs.Identifier.{partsOf}
@@ -15,7 +14,7 @@ use Rattle.states.specs.declared.State.the-variants.{Offered}
 use Rattle.session.specs.declared.Session.{Session}
 use Rattle.controller.specs.declared.Controller.{Controller}
 use Rattle.controller.specs.Frame.{listed, frameTo}
-use Rattle.demands.specs.Ends.{Says}
+use Rattle.demands.specs.Says.{Says}
 
 -- a session just opened with a station
 abbrev pub openedWith : ℕ → Session
@@ -23,7 +22,7 @@ openedWith source = record { station = source; silence = 0; count = 0; state = O
 
 -- a well-formed CIM from a listed station: every check passes, and the session opens with its source
 pub record Opens (c : Controller) (id : ℕ) (s : List ℕ) : Type 0 where
-  pub cim : Says id s charge.Cim Cim
+  pub cim : Says (c .settings) (partsOf id .source) Cim id s
   pub station : listed (partsOf id .source) (c .settings .stations) ≡ true
   pub number : frameTo c id s .number ≡ 0
   pub session : frameTo c id s .controller .session ≡ openedWith (partsOf id .source)

@@ -1,0 +1,212 @@
+-- "An EST has gone out since entry" (01, "Session by message", Stopping): in Stopping the count is above 0 exactly where an EST of ours is among
+-- the frames sent since Stopping began, over any run from a fresh controller. Assumes nothing.
+use Prim.Native.Nat.{ℕ, _+_}
+use native.Mathlib.Omega.{arith}
+use mathlib.Core.Path.{_≡_, refl, sym, ap, _∙_}
+use mathlib.Core.Bool.{Bool, true, false, cond, _&&_, _||_, false≢true}
+use mathlib.Core.List.{List, [], _∷_, _++_}
+use lib.Dec.{eqb, ltb}
+use lib.IntN.{ℤ}
+use lib.ListN.{length}
+use borrow.Author.Tests.{lt-ltb, eq-eqb}
+use Rattle.messages.specs.Table.{EST}
+use Rattle.messages.specs.Identifier.{partsOf, identifierOf}
+use Rattle.frames.specs.declared.Frame.{Frame}
+use Rattle.settings.specs.declared.Settings.{Settings}
+use Rattle.readings.specs.declared.Readings.{Readings}
+use Rattle.cells.specs.declared.Cells.{Cells}
+use Rattle.cells.specs.Summaries.{cellsOf}
+use Rattle.charge_messages.specs.declared.ChargeMessage.{ChargeMessage}
+use Rattle.states.specs.declared.Est.{Est}
+use Rattle.states.specs.declared.Est.the-variants.{Awaited, Fixed}
+use Rattle.states.specs.declared.State.{State}
+use Rattle.states.specs.declared.State.the-variants.{Idle, Offered, Unverified, Parameters, Ready, Charging, Stopping, Error}
+use Rattle.turns.specs.declared.Turn.{Turn}
+use Rattle.turns.specs.declared.Turn.the-variants as turn
+use Rattle.layouts.specs.Layouts.{estFrame}
+use Rattle.session.specs.declared.Session.{Session}
+use Rattle.session.specs.Message.{sessionAfter, appliedOf, messageOf}
+use Rattle.session.specs.Frames.{estBytes, stoppingFrames, framesIn, framesOf}
+use Rattle.session.specs.Tick.{turnedBy, turnIn, sentOf}
+use Rattle.literal.specs.Literal.{grown, counted, literalIn, literalAdvance, literalTick}
+use Rattle.outcomes.specs.Message.{outcomeOf}
+use Rattle.controller.specs.declared.Controller.{Controller}
+use Rattle.controller.specs.declared.Answer.{Answer}
+use Rattle.controller.specs.Start.{freshOf}
+use Rattle.controller.specs.Frame.{withSession, frameTo}
+use Rattle.controller.specs.Tick.{tickNumber, tickFrames, chargeFrames, broadcastFrames, cellFrames, accepted}
+use Rattle.demands.specs.Machine.{On, paperNext, seenOf, framesSeen}
+use Rattle.demands.specs.Apart.{Event, Came, Beaten, Wrote, callOf, accepts, after, afterAll}
+use Rattle.demands.specs.Ends.{isStopping}
+use Rattle.demands.specs.Gone.{holdsEst, sendsEst, goneAfter, estGone}
+use Rattle.demands.proofs.Came.{Comes, Unmoved, Took, came}
+use Rattle.demands.proofs.Messages.{mk, enters-anew, stays-stopping}
+
+-- in Stopping, the count tells whether one has gone out
+abbrev Agrees : Bool → Session → Type 0
+Agrees gone s = isStopping (s .state) ≡ true → ltb 0 (s .count) ≡ gone
+
+-- ---- a message
+and-false : (a b : Bool) → a ≡ true → (a && b) ≡ false → b ≡ false
+and-false true b h e = e
+and-false false b h e = absurd (false≢true h)
+
+module _ (x : Settings) (source a b n : ℕ) (m : ChargeMessage) where
+  abbrev next : State → Session
+  next st = sessionAfter source (mk a b n st) (outcomeOf x st n m)
+
+  anew : (st : State) → isStopping st ≡ false → isStopping (next st .state) ≡ true → ltb 0 (next st .count) ≡ false
+  anew st f h = and-false (isStopping (next st .state)) (ltb 0 (next st .count)) h (enters-anew x source a b n st m f)
+
+  -- after a message the count of Stopping is above 0 only if it was before
+  stopping-next : (st : State) → isStopping (next st .state) ≡ true → ltb 0 (next st .count) ≡ (isStopping st && ltb 0 n)
+  unfolding isStopping
+  stopping-next Idle h = anew Idle refl h
+  stopping-next Offered h = anew Offered refl h
+  stopping-next Unverified h = anew Unverified refl h
+  stopping-next Parameters h = anew Parameters refl h
+  stopping-next (Ready y most) h = anew (Ready y most) refl h
+  stopping-next (Charging p) h = anew (Charging p) refl h
+  stopping-next (Stopping k e) h = ap (ltb 0) (stays-stopping x source a b n k e m h)
+  stopping-next Error h = anew Error refl h
+
+-- what goes on without a frame of ours
+goes-on : (gone g st n : Bool) → (st ≡ true → n ≡ gone) → g ≡ (st && n) → g ≡ (true && ((st && gone) || false))
+goes-on gone g true n h e = e ∙ (h refl ∙ or-false gone)
+  where
+    or-false : (b : Bool) → b ≡ (b || false)
+    or-false true = refl
+    or-false false = refl
+goes-on gone g false n h e = e
+
+with-state : (p g gone' : Bool) → p ≡ true → g ≡ (true && gone') → g ≡ (p && gone')
+with-state p g gone' h e = rw h e
+
+same-count : (s : Session) → isStopping (s .state) ≡ true → ltb 0 (s .count) ≡ (isStopping (s .state) && ltb 0 (s .count))
+same-count s h = rw h
+
+module _ (gone : Bool) (c : Controller) (h : Agrees gone (c .session)) where
+  -- a session whose Stopping, if it is in it, has a count above 0 only if it had before
+  on-without : (s : Session) → (isStopping (s .state) ≡ true → ltb 0 (s .count) ≡ (isStopping (c .session .state) && ltb 0 (c .session .count)))
+      → Agrees (isStopping (s .state) && ((isStopping (c .session .state) && gone) || false)) s
+  on-without s k e =
+      with-state (isStopping (s .state)) (ltb 0 (s .count)) _ e
+      (goes-on gone (ltb 0 (s .count)) (isStopping (c .session .state)) (ltb 0 (c .session .count)) h (k e))
+
+  on-as-it-was : (s : Session) → s ≡ c .session → Agrees (isStopping (s .state) && ((isStopping (c .session .state) && gone) || false)) s
+  on-as-it-was s e =
+      on-without s
+      (λ p. ap (λ (z : Session). ltb 0 (z .count)) e
+      ∙ same-count (c .session) (ap (λ (z : Session). isStopping (z .state)) (sym e) ∙ p))
+
+  frame-agrees : (id : ℕ) (l : List ℕ) (a : Answer) → Comes c id l a
+      → Agrees (isStopping (a .controller .session .state) && ((isStopping (c .session .state) && gone) || false)) (a .controller .session)
+  unfolding withSession messageOf appliedOf
+  frame-agrees id l a (Unmoved k n) = on-as-it-was (a .controller .session) k
+  frame-agrees id l a (Took m says may k) =
+      on-without (a .controller .session)
+      (λ p. ap (λ (z : Answer). ltb 0 (z .controller .session .count)) k
+      ∙ stopping-next (c .settings) (partsOf id .source) (c .session .station) (c .session .silence) (c .session .count) m (c .session .state)
+      (ap (λ (z : Answer). isStopping (z .controller .session .state)) (sym k) ∙ p))
+
+-- ---- a tick
+or-left : (a b : Bool) → a ≡ true → (a || b) ≡ true
+or-left a b h = rw h
+
+module _ (c : Controller) (r : Readings) (k : Cells) (rest : List Frame) where
+  abbrev station : ℕ
+  station = c .session .station
+
+  abbrev ours : ℕ
+  ours = identifierOf EST station (c .settings .own)
+
+  est-first : (acknowledged : Bool) (est : Est) (fs : List Frame) → holdsEst c (estBytes (c .settings) station acknowledged est ∷ fs) ≡ true
+  unfolding holdsEst estBytes estFrame
+  est-first acknowledged Awaited fs = or-left (eqb ours ours) (holdsEst c fs) (eq-eqb ours ours refl)
+  est-first acknowledged (Fixed first second) fs = or-left (eqb ours ours) (holdsEst c fs) (eq-eqb ours ours refl)
+
+  -- a tick after which the session is in Stopping has sent one, and the count is above 0
+  record Sends (s : Session) (fs : List Frame) : Type 0 where
+    count : ltb 0 (s .count) ≡ true
+    est : holdsEst c (fs ++ rest) ≡ true
+
+  state-sends : (b n : ℕ) (st : State) → isStopping (literalIn (mk station b n st) st .state) ≡ true
+      → Sends (literalIn (mk station b n st) st) (framesIn (c .settings) r k station n st)
+  unfolding isStopping literalIn grown counted framesIn stoppingFrames
+  state-sends b n Idle h = absurd (false≢true h)
+  state-sends b n Offered h = absurd (false≢true h)
+  state-sends b n Unverified h = absurd (false≢true h)
+  state-sends b n Parameters h = absurd (false≢true h)
+  state-sends b n (Ready y most) h = absurd (false≢true h)
+  state-sends b n (Charging p) h = absurd (false≢true h)
+  state-sends b n (Stopping y e) h = record { count = lt-ltb 0 (n + 1) (omega arith); est = est-first y e _ }
+  state-sends b n Error h = absurd (false≢true h)
+
+  turn-sends : (t : Turn) → isStopping (literalAdvance (turnedBy (c .session) t) .state) ≡ true
+      → Sends (literalAdvance (turnedBy (c .session) t)) (framesOf (c .settings) r k station t (turnedBy (c .session) t))
+  unfolding literalAdvance turnedBy framesOf isStopping literalIn
+  turn-sends (turn.On st) h = state-sends (c .session .silence) (c .session .count) st h
+  turn-sends (turn.Enter st) h = state-sends 0 0 st h
+  turn-sends turn.Farewell h = absurd (false≢true h)
+  turn-sends turn.End h = absurd (false≢true h)
+
+  tick-sends : isStopping (literalTick (c .settings) r k (c .session) .state) ≡ true
+      → Sends (literalTick (c .settings) r k (c .session)) (sentOf (c .settings) r k (c .session))
+  unfolding literalTick sentOf
+  tick-sends h = turn-sends (turnIn (c .settings) r k (c .session)) h
+
+or-right : (a b : Bool) → b ≡ true → (a || b) ≡ true
+or-right true b h = refl
+or-right false b h = h
+
+module _ (gone : Bool) (c : Controller) (h : Agrees gone (c .session)) (r : Readings) (v : List ℕ) (t : List ℤ) (old : List ℕ) where
+  accepted-frames : accepts r v t old ≡ true → framesSeen (seenOf paperNext (On c) (callOf (Beaten r v t old))) ≡ tickFrames c r v t
+  unfolding seenOf framesSeen accepts accepted
+  accepted-frames e = rw e
+
+  refused-frames : accepts r v t old ≡ false → framesSeen (seenOf paperNext (On c) (callOf (Beaten r v t old))) ≡ []
+  unfolding seenOf framesSeen accepts accepted
+  refused-frames e = rw e
+
+  abbrev others : List Frame
+  others = broadcastFrames c r v t ++ cellFrames c r v t
+
+  taken-agrees : accepts r v t old ≡ true
+      → Agrees (isStopping (paperNext c r v t .session .state) && ((isStopping (c .session .state) && gone) || sendsEst c (Beaten r v t old)))
+      (paperNext c r v t .session)
+  unfolding sendsEst paperNext tickFrames chargeFrames
+  taken-agrees e p =
+      let d = tick-sends c r (cellsOf v t) others p in
+      d .count
+      ∙ sym (rw p (or-right (isStopping (c .session .state) && gone) (sendsEst c (Beaten r v t old)) (ap (holdsEst c) (accepted-frames e) ∙ d .est)))
+
+  refused-agrees : accepts r v t old ≡ false
+      → Agrees (isStopping (c .session .state) && ((isStopping (c .session .state) && gone) || sendsEst c (Beaten r v t old))) (c .session)
+  unfolding sendsEst holdsEst
+  refused-agrees e = rw (refused-frames e) (on-as-it-was gone c h (c .session) refl)
+
+  tick-agrees : (f : Bool) → accepts r v t old ≡ f
+      → Agrees (isStopping (cond f (paperNext c r v t) c .session .state) && ((isStopping (c .session .state) && gone) || sendsEst c (Beaten r v t old)))
+      (cond f (paperNext c r v t) c .session)
+  tick-agrees true e = taken-agrees e
+  tick-agrees false e = refused-agrees e
+
+-- ---- any event, any run
+event-agrees : (gone : Bool) (c : Controller) (e : Event) → Agrees gone (c .session) → Agrees (goneAfter gone c e) (after c e .session)
+unfolding goneAfter sendsEst seenOf framesSeen holdsEst after
+event-agrees gone c (Came id s) h = frame-agrees gone c h id s (frameTo c id s) (came c id s)
+event-agrees gone c (Beaten r v t old) h = tick-agrees gone c h r v t old (accepts r v t old) refl
+event-agrees gone c (Wrote old) h = on-as-it-was gone c h (c .session) refl
+
+run-agrees : (gone : Bool) (c : Controller) (es : List Event) → Agrees gone (c .session) → Agrees (estGone gone c es) (afterAll c es .session)
+unfolding estGone afterAll
+run-agrees gone c [] h = h
+run-agrees gone c (e ∷ es) h = run-agrees (goneAfter gone c e) (after c e) es (event-agrees gone c e h)
+
+fresh-agrees : (x : Settings) → Agrees false (freshOf x .session)
+unfolding freshOf isStopping
+fresh-agrees x h = absurd (false≢true h)
+
+pub est-gone : (x : Settings) (es : List Event) → isStopping (afterAll (freshOf x) es .session .state) ≡ true
+    → ltb 0 (afterAll (freshOf x) es .session .count) ≡ estGone false (freshOf x) es
+est-gone x es = run-agrees false (freshOf x) es (fresh-agrees x)
