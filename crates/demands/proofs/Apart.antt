@@ -331,7 +331,7 @@ after-both c d es fs a f =
     both true e = refl
     both false e = f e
 
-back : (c d : Controller) → Alike c d → Alike d c
+pub back : (c d : Controller) → Alike c d → Alike d c
 back c d a = record { settings = sym (a .settings); session = sym (a .session) }
 
 pub then : (c d e : Controller) → Alike c d → Alike d e → Alike c e

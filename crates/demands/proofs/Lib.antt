@@ -1,5 +1,6 @@
 pub mod Steps
 pub mod Demand2
+pub mod Calls
 pub mod WorkedRows
 pub mod Came
 pub mod Messages
@@ -10,5 +11,7 @@ pub mod Turned
 pub mod Stops
 pub mod Apart
 pub mod Silent
+pub mod Together
 pub mod Unmoved
+pub mod Since
 pub mod Reach

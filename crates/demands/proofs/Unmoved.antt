@@ -29,7 +29,7 @@ use Rattle.controller.specs.Frame.{notCan, flagsSet, notForUs, badSource, refus
 use Rattle.controller.specs.Tick.{broadcastFrames, cellFrames}
 use Rattle.demands.specs.Machine.{paperNext}
 use Rattle.demands.specs.Apart.{Event, Came, Beaten, Wrote, accepts, after, chargeIn, isCharge}
-use Rattle.demands.specs.Unmoved.{charging, others, Said, Answered, Broadcast, saidAt, said, Beside}
+use Rattle.demands.specs.Unmoved.{charging, others, Said, Answered, Broadcast, broadcastsAt, cellsAt, saidAt, said, Beside}
 use Rattle.demands.proofs.Apart.{made, choice, choices}
 
 -- ---- a charge message leaves all but the session
@@ -129,7 +129,7 @@ module _ (c d : Controller) (a : Beside c d) where
   same-cells r v t = rw (a .settings, a .queries)
 
   same-said : (e : Event) → charging e ≡ false → saidAt c e ≡ saidAt d e
-  unfolding saidAt charging
+  unfolding saidAt broadcastsAt cellsAt charging
   same-said (Came id s) h = rw (h, same-frame id s h .number)
   same-said (Beaten r v t old) h = rw (same-broadcasts r v t, same-cells r v t)
   same-said (Wrote old) h = refl

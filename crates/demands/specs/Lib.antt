@@ -1,5 +1,6 @@
 pub mod Machine
 pub mod InStep
+pub mod Calls
 pub mod WorkedRows
 pub mod Says
 pub mod Ends
@@ -9,4 +10,5 @@ pub mod Apart
 pub mod Gone
 pub mod Silent
 pub mod Unmoved
+pub mod Since
 pub mod Reach

@@ -3,7 +3,9 @@ use Prim.Native.Nat.{ℕ}
 use mathlib.Core.Path.{_≡_}
 use mathlib.Core.Bool.{Bool, true, false, cond}
 use mathlib.Core.List.{List, [], _∷_, _++_}
+use lib.IntN.{ℤ}
 use Rattle.frames.specs.declared.Frame.{Frame}
+use Rattle.readings.specs.declared.Readings.{Readings}
 use Rattle.controller.specs.declared.Controller.{Controller}
 use Rattle.controller.specs.declared.Answer.{Answer}
 use Rattle.controller.specs.Frame.{frameTo}
@@ -22,15 +24,20 @@ others [] = []
 others (e ∷ es) = cond (charging e) (others es) (e ∷ others es)
 
 -- what is said beside the session: to a frame that is no charge message, so to each query, its number; at a tick its broadcasts and its cell
--- frame
+-- frame, of which a refused one sends none
 pub data Said : Type 0 where
   Answered : ℕ → Said
   Broadcast : List Frame → List Frame → Said
 
+unfoldable pub broadcastsAt : Controller → Readings → List ℕ → List ℤ → List ℕ → List Frame
+broadcastsAt c r v t old = cond (accepts r v t old) (broadcastFrames c r v t) []
+
+unfoldable pub cellsAt : Controller → Readings → List ℕ → List ℤ → List ℕ → List Frame
+cellsAt c r v t old = cond (accepts r v t old) (cellFrames c r v t) []
+
 unfoldable pub saidAt : Controller → Event → List Said
 saidAt c (Came id s) = cond (isCharge id) [] (Answered (frameTo c id s .number) ∷ [])
-saidAt c (Beaten r v t old) =
-    cond (accepts r v t old) (Broadcast (broadcastFrames c r v t) (cellFrames c r v t)) (Broadcast [] []) ∷ []
+saidAt c (Beaten r v t old) = Broadcast (broadcastsAt c r v t old) (cellsAt c r v t old) ∷ []
 saidAt c (Wrote old) = []
 
 unfoldable pub said : Controller → List Event → List Said

@@ -1,0 +1,18 @@
+-- Every controller in use is a fresh one after a run of events: what is shown of runs from a fresh controller holds after any calls.
+use mathlib.Core.Path.{_≡_}
+use mathlib.Core.List.{List}
+use Rattle.settings.specs.declared.Settings.{Settings}
+use Rattle.controller.specs.declared.Controller.{Controller}
+use Rattle.controller.specs.Start.{freshOf}
+use Rattle.demands.specs.Machine.{Box, Off, On}
+use Rattle.demands.specs.Apart.{Event, afterAll}
+
+-- the settings that were read last, and the events since
+pub record Since (c : Controller) : Type 0 where
+  pub settings : Settings
+  pub events : List Event
+  pub run : afterAll (freshOf settings) events ≡ c
+
+unfoldable pub InUse : Box → Type 0
+InUse Off = Unit {0}
+InUse (On c) = Since c
