@@ -34,7 +34,8 @@ use Rattle.controller.specs.Frame.{isIdle}
 use Rattle.controller.specs.Tick.{tickNumber}
 use Rattle.demands.specs.Machine.{paperNext}
 use Rattle.demands.specs.Apart.{Event, Came, Beaten, Wrote, accepts, after, ended, fromStation, reaches, Alike}
-use Rattle.demands.specs.Silent.{quietAt, silent, ticked, ticksIn, endsWithin, repeated}
+use Rattle.demands.specs.Silent.{quietAt, silent, ticked, ticksIn, endsWithin, repeated, EndsBy, longest}
+use Rattle.demands.specs.Over.{openedWith}
 use Rattle.demands.proofs.Apart.{unreached, kept-open}
 
 -- the ticks that a silent session has left, at most
@@ -235,7 +236,7 @@ spent st (e ∷ es) c k q h =
     (omega (arith, event-falls c e o (ap (λ (z : ℕ). quietAt z e) (k o) ∙ and-left (quietAt st e) (silent st es) q))))
 
 -- a session whose station falls silent ends within 801 accepted ticks
-pub within-801 : (c : Controller) (es : List Event) → silent (c .session .station) es ≡ true → 801 ≤ ticksIn es → endsWithin c es ≡ true
+pub within-801 : EndsBy longest
 unfolding left
 within-801 c es q h =
     spent (c .session .station) es c (λ o. refl) q (omega (arith, most (c .session .state) (c .session .silence) (c .session .count)))
@@ -325,3 +326,24 @@ quietReadings =
 pub such-a-tick : (accepts quietReadings (330 ∷ []) (pos 20 ∷ []) (zeros 117) ≡ true) × (wantedOf quietReadings ≡ true)
 unfolding quietReadings zeros accepts tickNumber inRange wantedOf currentOk every
 such-a-tick = (refl, refl)
+
+-- so there is a run of 800 accepted ticks that a session with a silent station lives through: CIM is taken, and then nothing is heard
+repeats-silent : (st n : ℕ) (r : Readings) (v : List ℕ) (t : List ℤ) (old : List ℕ) → silent st (repeated n (Beaten r v t old)) ≡ true
+unfolding silent repeated quietAt
+repeats-silent st zero r v t old = refl
+repeats-silent st (suc n) r v t old = repeats-silent st n r v t old
+
+repeats-tick : (n : ℕ) (r : Readings) (v : List ℕ) (t : List ℤ) (old : List ℕ) → accepts r v t old ≡ true → ticksIn (repeated n (Beaten r v t old)) ≡ n
+unfolding ticksIn repeated ticked
+repeats-tick zero r v t old h = refl
+repeats-tick (suc n) r v t old h = rw (h, repeats-tick n r v t old h) (omega arith)
+
+-- any controller whose session has just been opened
+pub eight-hundred-are-not-enough : (c : Controller) → c .session ≡ openedWith (c .session .station) → EndsBy 800 → ⊥
+eight-hundred-are-not-enough c o h =
+    let such = such-a-tick in
+    let run : List Event = repeated 800 (Beaten quietReadings (330 ∷ []) (pos 20 ∷ []) (zeros 117)) in
+    let n : ticksIn run ≡ 800 = repeats-tick 800 quietReadings (330 ∷ []) (pos 20 ∷ []) (zeros 117) (such .0) in
+    false≢true
+    (sym (not-within-800 quietReadings (330 ∷ []) (pos 20 ∷ []) (zeros 117) (such .0) (such .1) c (c .session .station) 0 o)
+    ∙ h c run (repeats-silent (c .session .station) 800 quietReadings (330 ∷ []) (pos 20 ∷ []) (zeros 117)) (omega (arith, n)))

@@ -1,4 +1,10 @@
--- The rows of 01, "Worked rows", marked P, as one table. Each is proved beside the definitions that it is about. Assumes nothing.
+-- The rows of 01, "Worked rows", marked P, as one table. Most are proved beside the definitions that they are about. Assumes nothing.
+use Prim.Native.Nat.{ℕ}
+use mathlib.Core.Path.{_≡_, refl}
+use Rattle.settings.specs.declared.Settings.{Settings}
+use Rattle.cells.specs.declared.Cells.{Cells}
+use Rattle.phases.specs.declared.Phase.the-variants.{Drive}
+use Rattle.layouts.specs.Layouts.{rawRequest, ecrFrame, ecrOf}
 use Rattle.layouts.proofs.WorkedRows as layouts
 use Rattle.broadcasts.proofs.WorkedRows as broadcasts
 use Rattle.readings.proofs.WorkedRows as readings
@@ -7,6 +13,19 @@ use Rattle.phases.proofs.WorkedRows as phases
 use Rattle.cells.proofs.WorkedRows as cells
 use Rattle.queries.proofs.WorkedRows as queries
 use Rattle.demands.specs.WorkedRows.{WorkedRows}
+
+module _ (x : Settings) (station cycle time : ℕ) (c : Cells) where
+  asks-400 : ecrOf x station c (Drive 400 cycle time) ≡ ecrFrame x station 0 3600 0x02
+  unfolding ecrOf rawRequest
+  asks-400 = refl
+
+  asks-200 : ecrOf x station c (Drive 200 cycle time) ≡ ecrFrame x station 0 3800 0x02
+  unfolding ecrOf rawRequest
+  asks-200 = refl
+
+  asks-100 : ecrOf x station c (Drive 100 cycle time) ≡ ecrFrame x station 0 3900 0x02
+  unfolding ecrOf rawRequest
+  asks-100 = refl
 
 pub worked-rows : WorkedRows
 worked-rows =
@@ -31,6 +50,9 @@ worked-rows =
       asked-100 = phases.then-100;
       rest-100 = phases.rest-100;
       then-hold = phases.then-hold;
+      ecr-400 = asks-400;
+      ecr-200 = asks-200;
+      ecr-100 = asks-100;
       drives-60 = phases.sixty-drives;
       holds-59 = phases.fifty-nine-holds;
       drives-60-again = phases.sixty-drives-again;

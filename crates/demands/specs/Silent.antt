@@ -1,5 +1,6 @@
 -- A session whose station falls silent ends within 801 accepted ticks (01, "What a reader can rely on").
-use Prim.Native.Nat.{ℕ, zero, suc, _+_}
+use Prim.Native.Nat.{ℕ, zero, suc, _+_, _≤_}
+use mathlib.Core.Path.{_≡_}
 use mathlib.Core.Bool.{Bool, true, false, not, cond, _&&_, _||_}
 use mathlib.Core.List.{List, [], _∷_}
 use Rattle.controller.specs.declared.Controller.{Controller}
@@ -34,3 +35,11 @@ endsWithin c (e ∷ es) = ended c || endsWithin (after c e) es
 unfoldable pub repeated : ℕ → Event → List Event
 repeated zero e = []
 repeated (suc n) e = e ∷ repeated n e
+
+-- a session whose station falls silent has ended by so many accepted ticks, whatever others send
+abbrev pub EndsBy : ℕ → Type 0
+EndsBy n = (c : Controller) (es : List Event) → silent (c .session .station) es ≡ true → n ≤ ticksIn es → endsWithin c es ≡ true
+
+-- "within 801 accepted ticks"
+abbrev pub longest : ℕ
+longest = 801

@@ -17,7 +17,7 @@ use Rattle.phases.specs.declared.Phase.the-variants.{Drive, Rest, Hold}
 use Rattle.phases.specs.declared.Turned.the-variants.{On}
 use Rattle.phases.specs.Phases.{startPhase, turnedOf}
 use Rattle.outcomes.specs.Offer.{tenthsOf}
-use Rattle.layouts.specs.Layouts.{holdVoltage, rawRequest, eimOf, eemOf}
+use Rattle.layouts.specs.Layouts.{holdVoltage, rawRequest, ecrFrame, ecrOf, eimOf, eemOf}
 use Rattle.broadcasts.specs.Layouts.{psOf}
 use Rattle.queries.specs.declared.Kind.the-variants.{Voltages, Temperatures}
 use Rattle.queries.specs.declared.Query.{Query}
@@ -57,6 +57,10 @@ pub record WorkedRows : Type 0 where
   pub asked-100 : turnedOf (Rest 200 2 6000) false ≡ On (Drive 100 3 0)
   pub rest-100 : turnedOf (Drive 100 3 0) true ≡ On (Rest 100 3 0)
   pub then-hold : turnedOf (Rest 100 3 6000) false ≡ On (Hold 0)
+  -- which ECR says in mode 02 with voltage 0, as 4000 minus each
+  pub ecr-400 : (x : Settings) (station cycle time : ℕ) (c : Cells) → ecrOf x station c (Drive 400 cycle time) ≡ ecrFrame x station 0 3600 0x02
+  pub ecr-200 : (x : Settings) (station cycle time : ℕ) (c : Cells) → ecrOf x station c (Drive 200 cycle time) ≡ ecrFrame x station 0 3800 0x02
+  pub ecr-100 : (x : Settings) (station cycle time : ℕ) (c : Cells) → ecrOf x station c (Drive 100 cycle time) ≡ ecrFrame x station 0 3900 0x02
   -- R 60 drives, 59 holds: at the start and after a Rest
   pub drives-60 : startPhase 400 60 ≡ Drive 60 1 0
   pub holds-59 : startPhase 400 59 ≡ Hold 0
