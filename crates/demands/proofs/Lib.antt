@@ -10,4 +10,6 @@ pub mod Stops
 pub mod Apart
 pub mod Silent
 pub mod Unmoved
+pub mod ReachFrames
+pub mod ReachStretches
 pub mod Reach
