@@ -13,3 +13,4 @@ pub mod Unmoved
 pub mod ReachFrames
 pub mod ReachStretches
 pub mod Reach
+pub mod ReachRun

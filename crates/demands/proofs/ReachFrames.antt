@@ -59,6 +59,22 @@ content-kind : (k : Charge) (s : List ℕ) (m : ChargeMessage) → contentOf k s
 unfolding kindIn
 content-kind k s m e = ap (kindIn k) (sym e) ∙ kind-in k s
 
+-- a frame says one message
+unfoldable chargeIn : Recognized → Charge
+chargeIn (recognized.As (message.Charge k)) = k
+chargeIn (recognized.As (message.Query q)) = charge.Cim
+chargeIn (recognized.Refused n) = charge.Cim
+
+unfoldable messageIn : Content → ChargeMessage
+messageIn (content.Allowed m) = m
+messageIn (content.Refused n) = Cim
+
+pub says-one : (x : Settings) (st : ℕ) (m w : ChargeMessage) (id : ℕ) (s : List ℕ) → Says x st m id s → Says x st w id s → m ≡ w
+unfolding chargeIn messageIn
+says-one x st m w id s h k =
+    let e : chargeOf m ≡ chargeOf w = ap chargeIn (sym (h .pf) ∙ k .pf) in
+    ap messageIn (sym (h .content) ∙ (ap (λ (z : Charge). contentOf z s) e ∙ k .content))
+
 -- ---- what the station says by a frame, if anything
 pub data Spoken (c : Controller) (id : ℕ) (s : List ℕ) (a : Answer) : Type 0 where
   Unsaid : a .controller .session ≡ c .session → Spoken c id s a
