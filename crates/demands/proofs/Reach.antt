@@ -23,7 +23,6 @@ use Rattle.session.specs.declared.Session.{Session}
 use Rattle.session.specs.Message.{sessionAfter, appliedOf, messageOf}
 use Rattle.literal.specs.Literal.{literalTick}
 use Rattle.controller.specs.declared.Controller.{Controller}
-use Rattle.controller.specs.declared.Answer.{Answer}
 use Rattle.controller.specs.Frame.{isIdle, listed, mayCharge, withSession, contentTaken, chargeTo, messageTo, knownTo, frameTo}
 use Rattle.demands.specs.Machine.{paperNext}
 use Rattle.demands.specs.Apart.{Event, Came, Beaten, Wrote, accepts, after, afterAll, ended, reaches, heard, Alike}
@@ -227,7 +226,7 @@ module _ (x : Settings) (a : ℕ) (o : Offer) where
       good-step _ c (Came id s) fs (now-open k n b c w)
       (follow UntilVerified 0 0 fs f (after c (Came id s))
       (begins UntilVerified c id s Unverified (w .settings)
-      (now-says k n b c w (Cvm false) id s h ∙ cvm-delays x a o n (w .silence) (w .count) (w .state) (w .place) l) AtUnverified))
+      (now-says k n b c w (Cvm false) id s h ∙ cvm-delays x a o n (w .silence) (w .count) (w .state) (w .place) (omega (arith, l))) AtUnverified))
   follow k n b es (VerifiesLater {id = id} {s = s} {es = fs} h f) c w =
       good-step _ c (Came id s) fs (now-open k n b c w)
       (follow UntilCmp 0 0 fs f (after c (Came id s))
@@ -237,16 +236,16 @@ module _ (x : Settings) (a : ℕ) (o : Offer) where
       good-step _ c (Came id s) fs (now-open k n b c w)
       (follow UntilCmp 0 0 fs f (after c (Came id s))
       (begins UntilCmp c id s Parameters (w .settings)
-      (now-says k n b c w (Cvm true) id s h ∙ cvm-verifies x a o n (w .silence) (w .count) (w .state) (w .place) l) AtParameters))
+      (now-says k n b c w (Cvm true) id s h ∙ cvm-verifies x a o n (w .silence) (w .count) (w .state) (w .place) (omega (arith, l))) AtParameters))
   follow k n b es (Offers {id = id} {s = s} {es = fs} h y l f) c w =
       good-step _ c (Came id s) fs (now-open k n b c w)
       (follow UntilCrm 0 0 fs f (after c (Came id s))
       (begins UntilCrm c id s (Ready true (stationMost o)) (w .settings)
-      (now-says k n b c w (Cmp o) id s h ∙ cmp-offers x a o n (w .silence) (w .count) (w .state) (w .place) y l) AtLast))
+      (now-says k n b c w (Cmp o) id s h ∙ cmp-offers x a o n (w .silence) (w .count) (w .state) (w .place) y (omega (arith, l))) AtLast))
   follow k n b es (Starts {id = id} {s = s} h l) c w =
       good-step _ c (Came id s) [] (now-open k n b c w)
       (good-end (after c (Came id s)) (chargingWith x a o) charging-open
-      (now-says k n b c w (Crm true) id s h ∙ crm-starts x a o n (w .silence) (w .count) (w .state) (w .place) l))
+      (now-says k n b c w (Crm true) id s h ∙ crm-starts x a o n (w .silence) (w .count) (w .state) (w .place) (omega (arith, l))))
 
 -- a station whose CIM was taken, and which follows the handshake in what the session can hear, whatever else comes in between: Charging, with
 -- that station and its last offer

@@ -1,22 +1,18 @@
 -- That a station can follow the handshake: frames of the station 56 to us, F4, and two runs of which `reaches-charging` says that they come to
 -- Charging: one of eight accepted ticks and no more than it takes, and one in which the station repeats itself and others send in between. Assumes
 -- nothing.
-use Prim.Native.Nat.{ℕ, _+_, _<_, _≤_}
+use Prim.Native.Nat.{ℕ, _+_, _<_}
 use native.Mathlib.Omega.{arith}
 use mathlib.Core.Path.{_≡_, refl, ap, sym, subst, _∙_}
-use mathlib.Core.Bool.{Bool, true, false, false≢true}
+use mathlib.Core.Bool.{true, false, false≢true}
 use mathlib.Core.List.{List, [], _∷_}
 use lib.IntN.{pos}
 use Rattle.messages.specs.Identifier.{partsOf}
 use Rattle.settings.specs.declared.Settings.{Settings}
-use Rattle.readings.specs.Readings.{wantedOf}
 use Rattle.charge_messages.specs.declared.Offer.{Offer}
-use Rattle.charge_messages.specs.declared.ChargeMessage.{ChargeMessage}
 use Rattle.charge_messages.specs.declared.ChargeMessage.the-variants.{Cim, Cvm, Cmp, Crm}
 use Rattle.charge_messages.specs.Content.{contentOf}
 use Rattle.outcomes.specs.Offer.{acceptedOf}
-use Rattle.session.specs.declared.Session.{Session}
-use Rattle.controller.specs.declared.Controller.{Controller}
 use Rattle.controller.specs.Start.{freshOf}
 use Rattle.controller.specs.Frame.{notCan, flagsSet, notForUs, badSource, listed}
 use Rattle.demands.specs.Apart.{Event, Came, Beaten, after, afterAll, isQuery, queryIn, fromStation, reaches, heard}

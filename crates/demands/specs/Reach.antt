@@ -31,9 +31,10 @@ pub data Stretch : Type 0 where
   UntilCmp : Stretch
   UntilCrm : Stretch
 
--- What the station may say besides, `n` accepted ticks into a stretch: everything but CST and CEM, by which it would stop or end the session, and
--- but what would move the handshake on. CVM and CRM AA come too early, and are refused, before our own frame has gone out (EIM; ECP; since the last CMP
--- ERM). CMP may come often, accepted or not; the last one begins the last stretch. A CIM after Offered goes by `Passing`
+-- What the station may say besides, `n` accepted ticks into a stretch: not CST and CEM, by which it would stop or end the session, and not what
+-- would move the handshake on at another place than is meant. So CVM may come here as long as no EIM has gone out, and CRM AA as long as no ECP
+-- has, or no ERM since the last CMP: there they are refused. CMP may come often, accepted or not, up to the last one. In Offered a CIM is heard;
+-- later it goes by `Passing`
 unfoldable pub besides : Stretch → ℕ → ChargeMessage → Bool
 besides UntilCvm n Cim = true
 besides UntilVerified n Cim = false
@@ -55,34 +56,34 @@ besides k n (Ccs b) = true
 besides k n (Cst b) = false
 besides k n Cem = false
 
--- what may come at any time, and leaves silence alone: a frame by which the station says no charge message (another's, a cell query, or one that 3 to
--- 10 refuse) or only a CIM; a refused tick; settings written
+-- what may come at any time, and leaves silence alone: a frame by which the station says no charge message (another's, a cell query, or one that 3
+-- to 10 refuse) or only a CIM; a refused tick; settings written
 unfoldable pub Passing : Settings → ℕ → Event → Type 0
 Passing x st (Came id s) = (m : ChargeMessage) → Says x st m id s → m ≡ Cim
 Passing x st (Beaten r v t old) = accepts r v t old ≡ false
 Passing x st (Wrote old) = Unit {0}
 
--- Over a list of events, from a place `n` accepted ticks into a stretch and `b` after the station was last heard, the station follows the handshake up
--- to its CRM AA; `o` is the offer of its last CMP.
-pub data Follows (x : Settings) (st : ℕ) (o : Offer) : Stretch → ℕ → ℕ → List Event → Type 0 where
-  Passes : {k : Stretch} {n b : ℕ} {e : Event} {es : List Event}
-      → Passing x st e → Follows x st o k n b es → Follows x st o k n b (e ∷ es)
-  -- an accepted tick: charge is wanted, and fewer than 200 have gone by since the station was last heard
-  Ticks : {k : Stretch} {n b : ℕ} {r : Readings} {v : List ℕ} {t : List ℤ} {old : List ℕ} {es : List Event}
-      → accepts r v t old ≡ true → wantedOf r ≡ true → b < 200
-      → Follows x st o k (n + 1) (b + 1) es → Follows x st o k n b (Beaten r v t old ∷ es)
-  Speaks : {k : Stretch} {n b id : ℕ} {s : List ℕ} {m : ChargeMessage} {es : List Event}
-      → Says x st m id s → besides k n m ≡ true → Follows x st o k n 0 es → Follows x st o k n b (Came id s ∷ es)
-  -- after at least 1 tick CVM: 00, and AA at any time later, or AA at once
-  Delays : {n b id : ℕ} {s : List ℕ} {es : List Event}
-      → Says x st (Cvm false) id s → 1 ≤ n → Follows x st o UntilVerified 0 0 es → Follows x st o UntilCvm n b (Came id s ∷ es)
-  VerifiesLater : {n b id : ℕ} {s : List ℕ} {es : List Event}
-      → Says x st (Cvm true) id s → Follows x st o UntilCmp 0 0 es → Follows x st o UntilVerified n b (Came id s ∷ es)
-  Verifies : {n b id : ℕ} {s : List ℕ} {es : List Event}
-      → Says x st (Cvm true) id s → 1 ≤ n → Follows x st o UntilCmp 0 0 es → Follows x st o UntilCvm n b (Came id s ∷ es)
-  -- after at least 6 ticks a CMP that the yes rule accepts
-  Offers : {n b id : ℕ} {s : List ℕ} {es : List Event} → Says x st (Cmp o) id s → acceptedOf x o ≡ true
-      → 6 ≤ n → Follows x st o UntilCrm 0 0 es → Follows x st o UntilCmp n b (Came id s ∷ es)
-  -- after at least 1 tick CRM AA
-  Starts : {n b id : ℕ} {s : List ℕ}
-      → Says x st (Crm true) id s → 1 ≤ n → Follows x st o UntilCrm n b (Came id s ∷ [])
+-- the station `st` of a controller with the settings `x`; `o` is the offer of its last CMP
+module _ (x : Settings) (st : ℕ) (o : Offer) where
+  -- over a list of events, from a place `n` accepted ticks into a stretch and `b` after the station was last heard, the station follows the
+  -- handshake up to its CRM AA
+  pub data Follows : Stretch → ℕ → ℕ → List Event → Type 0 where
+    Passes : {k : Stretch} {n b : ℕ} {e : Event} {es : List Event} → Passing x st e → Follows k n b es → Follows k n b (e ∷ es)
+    -- an accepted tick: charge is wanted, and fewer than 200 have gone by since the station was last heard
+    Ticks : {k : Stretch} {n b : ℕ} {r : Readings} {v : List ℕ} {t : List ℤ} {old : List ℕ} {es : List Event}
+        → accepts r v t old ≡ true → wantedOf r ≡ true → b < 200
+        → Follows k (n + 1) (b + 1) es → Follows k n b (Beaten r v t old ∷ es)
+    Speaks : {k : Stretch} {n b id : ℕ} {s : List ℕ} {m : ChargeMessage} {es : List Event}
+        → Says x st m id s → besides k n m ≡ true → Follows k n 0 es → Follows k n b (Came id s ∷ es)
+    -- after at least 1 tick CVM: 00, and AA at any time later, or AA at once
+    Delays : {n b id : ℕ} {s : List ℕ} {es : List Event}
+        → Says x st (Cvm false) id s → 1 ≤ n → Follows UntilVerified 0 0 es → Follows UntilCvm n b (Came id s ∷ es)
+    VerifiesLater : {n b id : ℕ} {s : List ℕ} {es : List Event}
+        → Says x st (Cvm true) id s → Follows UntilCmp 0 0 es → Follows UntilVerified n b (Came id s ∷ es)
+    Verifies : {n b id : ℕ} {s : List ℕ} {es : List Event}
+        → Says x st (Cvm true) id s → 1 ≤ n → Follows UntilCmp 0 0 es → Follows UntilCvm n b (Came id s ∷ es)
+    -- after at least 6 ticks a CMP that the yes rule accepts
+    Offers : {n b id : ℕ} {s : List ℕ} {es : List Event}
+        → Says x st (Cmp o) id s → acceptedOf x o ≡ true → 6 ≤ n → Follows UntilCrm 0 0 es → Follows UntilCmp n b (Came id s ∷ es)
+    -- after at least 1 tick CRM AA
+    Starts : {n b id : ℕ} {s : List ℕ} → Says x st (Crm true) id s → 1 ≤ n → Follows UntilCrm n b (Came id s ∷ [])
