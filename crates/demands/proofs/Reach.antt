@@ -219,7 +219,7 @@ module _ (x : Settings) (a : ℕ) (o : Offer) where
       good-step _ c e fs (now-open k n b c w) (follow k n b fs f (after c e) (now-passes k n b c w e h))
   follow k n b es (Ticks {r = r} {v = v} {t = t} {old = old} {es = fs} h u l f) c w =
       good-step _ c (Beaten r v t old) fs (now-open k n b c w)
-      (follow k (n + 1) (b + 1) fs f (after c (Beaten r v t old)) (now-tick k n b c w r v t old h u l))
+      (follow k (n + 1) (b + 1) fs f (after c (Beaten r v t old)) (now-tick k n b c w r v t old h u (omega (arith, l))))
   follow k n b es (Speaks {id = id} {s = s} {m = m} {es = fs} h u f) c w =
       good-step _ c (Came id s) fs (now-open k n b c w) (follow k n 0 fs f (after c (Came id s)) (now-speaks k n b c w m id s h u))
   follow k n b es (Delays {id = id} {s = s} {es = fs} h l f) c w =
@@ -305,3 +305,14 @@ pub cim-opens : (c : Controller) (st id : ℕ) (s : List ℕ) → c .session .st
 unfolding after messageOf appliedOf
 cim-opens c st id s i l h =
     cim-frame c st id s (idle-is (c .session .state) i) l h ∙ cim-opened (c .settings) st (c .session) (c .session .state) i
+
+-- both together: a listed station's CIM in Idle, and the station follows the handshake
+pub from-cim-to-charging : (c : Controller) (st id : ℕ) (s : List ℕ) (o : Offer) (es : List Event)
+    → c .session .state ≡ Idle → listed st (c .settings .stations) ≡ true → Says (c .settings) st Cim id s
+    → Follows (c .settings) st o UntilCvm 0 0 (heard st es)
+    → afterAll c (Came id s ∷ es) .session ≡ chargingWith (c .settings) st o
+unfolding afterAll
+from-cim-to-charging c st id s o es i l h f =
+    reaches-charging (after c (Came id s)) st o es (cim-opens c st id s i l h)
+    (subst (λ (x : Settings). Follows x st o UntilCvm 0 0 (heard st es)) (sym (after-settings c id s)) f)
+    ∙ ap (λ (x : Settings). chargingWith x st o) (after-settings c id s)

@@ -1,32 +1,31 @@
--- That a station can follow the handshake: frames of the station 56 to us, F4, and two runs of which `reaches-charging` says that they come to
+-- That a station can follow the handshake: frames of the station 56 to us, F4, and two runs of which `from-cim-to-charging` says that they come to
 -- Charging: one of eight accepted ticks and no more than it takes, and one in which the station repeats itself and others send in between. Assumes
 -- nothing.
 use Prim.Native.Nat.{ℕ, _+_, _<_}
 use native.Mathlib.Omega.{arith}
-use mathlib.Core.Path.{_≡_, refl, ap, sym, subst, _∙_}
+use mathlib.Core.Path.{_≡_, refl, sym}
 use mathlib.Core.Bool.{true, false, false≢true}
 use mathlib.Core.List.{List, [], _∷_}
 use lib.IntN.{pos}
 use Rattle.messages.specs.Identifier.{partsOf}
 use Rattle.settings.specs.declared.Settings.{Settings}
+use Rattle.settings.specs.Range.{within, goodStations, inRange}
 use Rattle.charge_messages.specs.declared.Offer.{Offer}
 use Rattle.charge_messages.specs.declared.ChargeMessage.the-variants.{Cim, Cvm, Cmp, Crm}
 use Rattle.charge_messages.specs.Content.{contentOf}
 use Rattle.outcomes.specs.Offer.{acceptedOf}
 use Rattle.controller.specs.Start.{freshOf}
 use Rattle.controller.specs.Frame.{notCan, flagsSet, notForUs, badSource, listed}
-use Rattle.demands.specs.Apart.{Event, Came, Beaten, after, afterAll, isQuery, queryIn, fromStation, reaches, heard}
+use Rattle.demands.specs.Apart.{Event, Came, Beaten, afterAll, isQuery, queryIn, fromStation, reaches, heard}
 use Rattle.demands.specs.Silent.{ticked, ticksIn}
 use Rattle.demands.specs.Says.{Says}
-use Rattle.demands.specs.Over.{openedWith}
 use Rattle.demands.specs.Reach.{chargingWith, Stretch, UntilCvm, UntilVerified, UntilCmp, UntilCrm, besides}
 use Rattle.demands.specs.Reach.{Passing, Follows, Passes, Ticks, Speaks, Delays, VerifiesLater, Verifies, Offers, Starts}
 use Rattle.demands.proofs.Silent.{zeros, quietReadings, such-a-tick}
-use Rattle.demands.proofs.Reach.{reaches-charging, cim-opens}
-use Rattle.demands.proofs.Apart.{kept-settings}
+use Rattle.demands.proofs.Reach.{from-cim-to-charging}
 use Rattle.demands.proofs.ReachFrames.{says-one}
 
--- 60.0 V and 100.0 A at the most; stations 56 and 57
+-- settings that a record may hold: 60.0 V and 100.0 A at the most, stations 56 and 57
 abbrev ours : Settings
 ours =
     record {
@@ -38,6 +37,10 @@ ours =
       stations = record { count = 2; first = 0x56; second = 0x57; third = 0; fourth = 0 };
       versions = record { first = 0; second = 0; third = 0; fourth = 0; fifth = 0 };
     }
+
+settings-good : inRange ours ≡ true
+unfolding inRange within goodStations
+settings-good = refl
 
 -- a CMP of 0 V to 100.0 V and 0 A to 200.0 A, and one of 0 V to 50.0 V, which the yes rule does not accept
 abbrev offer : Offer
@@ -58,6 +61,10 @@ lowData = 0xf4 ∷ 0x01 ∷ 0x00 ∷ 0x00 ∷ 0xd0 ∷ 0x07 ∷ 0xa0 ∷ 0x0f �
 yes-rule : acceptedOf ours offer ≡ true
 unfolding acceptedOf
 yes-rule = refl
+
+low-refused : acceptedOf ours lowOffer ≡ false
+unfolding acceptedOf
+low-refused = refl
 
 is-listed : listed 0x56 (ours .stations) ≡ true
 unfolding listed
@@ -121,12 +128,8 @@ tick = Beaten quietReadings (330 ∷ []) (pos 20 ∷ []) (zeros 117)
 pub eight : List Event
 eight = tick ∷ cvm-aa ∷ tick ∷ tick ∷ tick ∷ tick ∷ tick ∷ tick ∷ cmp ∷ tick ∷ crm-aa ∷ []
 
-opened : after (freshOf ours) cim .session ≡ openedWith 0x56
-unfolding freshOf
-opened = cim-opens (freshOf ours) 0x56 0x1826_f456 cimData refl is-listed says-cim
-
 on : (k : Stretch) (n b : ℕ) (es : List Event) → b < 200 → Follows ours 0x56 offer k (n + 1) (b + 1) es → Follows ours 0x56 offer k n b (tick ∷ es)
-on k n b es l f = Ticks (such-a-tick .0) (such-a-tick .1) l f
+on k n b es l f = Ticks {b = b} (such-a-tick .0) (such-a-tick .1) (omega (arith, l)) f
 
 follows-eight : Follows ours 0x56 offer UntilCvm 0 0 (heard 0x56 eight)
 unfolding eight heard reaches fromStation isQuery queryIn partsOf
@@ -141,19 +144,11 @@ follows-eight =
     (on UntilCmp 5 5 _ (omega arith)
     (Offers says-cmp yes-rule (omega arith) (on UntilCrm 0 0 _ (omega arith) (Starts says-crm-aa (omega arith)))))))))))
 
--- the settings are the same after the CIM
-settings-kept : after (freshOf ours) cim .settings ≡ ours
-unfolding after freshOf
-settings-kept = kept-settings (freshOf ours) 0x1826_f456 cimData
-
 -- from a fresh controller, by the CIM and what follows
 charges : (es : List Event) → Follows ours 0x56 offer UntilCvm 0 0 (heard 0x56 es)
     → afterAll (freshOf ours) (cim ∷ es) .session ≡ chargingWith ours 0x56 offer
-unfolding afterAll
-charges es f =
-    reaches-charging (after (freshOf ours) cim) 0x56 offer es opened
-    (subst (λ (x : Settings). Follows x 0x56 offer UntilCvm 0 0 (heard 0x56 es)) (sym settings-kept) f)
-    ∙ ap (λ (x : Settings). chargingWith x 0x56 offer) settings-kept
+unfolding freshOf
+charges es f = from-cim-to-charging (freshOf ours) 0x56 0x1826_f456 cimData offer es refl is-listed says-cim f
 
 -- eight accepted ticks are enough
 pub eight-are-enough : (ticksIn eight ≡ 8) × (afterAll (freshOf ours) (cim ∷ eight) .session ≡ chargingWith ours 0x56 offer)
@@ -174,6 +169,8 @@ query = Came 0x181b_f456 (zeros 8)
 abbrev cst-to-55 : Event
 cst-to-55 = Came 0x1816_5556 (0x00 ∷ 0x00 ∷ 0xaa ∷ [])
 
+-- from the opening CIM on: a CVM AA before any EIM; CVM 00, and 00 again before AA; CRM AA and CMP before their time; a CMP that the yes rule does
+-- not accept; then the last CMP, CRM AA before its ERM, CRM FF, and the CRM AA that counts
 pub busy : List Event
 busy =
     cvm-aa ∷ cim-57 ∷ cim ∷ tick ∷ cem-57
@@ -224,5 +221,6 @@ follows-busy =
     (Delays says-cvm-00 (omega arith)
     (Passes cim-passes (on UntilVerified 0 0 _ (omega arith) (Speaks says-cvm-00 refl (VerifiesLater says-cvm-aa follows-cmp)))))))
 
+-- Charging all the same
 pub busy-charges : afterAll (freshOf ours) (cim ∷ busy) .session ≡ chargingWith ours 0x56 offer
 busy-charges = charges busy follows-busy
