@@ -23,7 +23,8 @@ use Rattle.charge_messages.specs.Content.{contentOf}
 use Rattle.session.specs.Message.{messageOf}
 use Rattle.controller.specs.declared.Controller.{Controller}
 use Rattle.controller.specs.declared.Answer.{Answer}
-use Rattle.controller.specs.Frame.{notCan, flagsSet, notForUs, badSource, listed, mayCharge, withSession, contentTaken, chargeTo, withQueries, queryTo, messageTo, knownTo, frameTo}
+use Rattle.controller.specs.Frame.{notCan, flagsSet, notForUs, badSource, listed, mayCharge, withSession, contentTaken, chargeTo}
+use Rattle.controller.specs.Frame.{withQueries, queryTo, messageTo, knownTo, frameTo}
 use Rattle.demands.specs.Apart.{ended}
 use Rattle.demands.specs.Says.{Says, chargeOf}
 
