@@ -5,6 +5,7 @@ use mathlib.Core.Path.{_≡_, refl, sym, ap, _∙_}
 use mathlib.Core.Bool.{Bool, true, false, cond, _&&_, false≢true}
 use mathlib.Core.List.{List}
 use native.Mathlib.Omega.{arith}
+use borrow.Author.Tests.{eqb-true, eq-eqb}
 use lib.Dec.{eqb, ltb}
 use lib.ListN.{length, getD}
 use Rattle.messages.specs.declared.received.Charge.{Charge}
@@ -22,7 +23,7 @@ use Rattle.charge_messages.specs.Content.{contentOf}
 use Rattle.session.specs.Message.{messageOf}
 use Rattle.controller.specs.declared.Controller.{Controller}
 use Rattle.controller.specs.declared.Answer.{Answer}
-use Rattle.controller.specs.Frame.{refused, notCan, flagsSet, notForUs, badSource, mayCharge, withSession, contentTaken, chargeTo, withQueries, queryTo, messageTo, knownTo, frameTo}
+use Rattle.controller.specs.Frame.{refused, notCan, flagsSet, notForUs, badSource, isIdle, listed, mayCharge, withSession, contentTaken, chargeTo, withQueries, queryTo, messageTo, knownTo, frameTo}
 use Rattle.demands.specs.Says.{chargeOf, Says}
 
 -- both ways of a test come to the same
@@ -149,3 +150,22 @@ module _ (c : Controller) (id : ℕ) (s : List ℕ) where
   pub says-refused : (st : ℕ) (m : ChargeMessage) → Says (c .settings) st m id s → mayCharge c st ≡ false → frameTo c id s ≡ refused 9 c
   unfolding frameTo knownTo messageTo chargeTo
   says-refused st m h may = rw (h .can, h .flags, h .target, h .other, h .pf, h .long, h .source, may)
+
+second : (t u v : Bool) → t ≡ false → cond t u v ≡ true → v ≡ true
+second true u v h e = absurd (false≢true (sym h))
+second false u v h e = e
+
+-- in an open session a charge message goes further only from the session's station
+pub station-is : (c : Controller) (source : ℕ) → isIdle (c .session .state) ≡ false → mayCharge c source ≡ true → source ≡ c .session .station
+unfolding mayCharge
+station-is c source h e =
+    eqb-true source (c .session .station)
+    (second (isIdle (c .session .state)) (listed source (c .settings .stations)) (eqb source (c .session .station)) h e)
+
+-- what the session's station says in an open session is taken
+pub taken-in : (c : Controller) (id : ℕ) (s : List ℕ) (m : ChargeMessage) → isIdle (c .session .state) ≡ false
+    → Says (c .settings) (c .session .station) m id s
+    → frameTo c id s ≡ withSession c (messageOf (c .settings) (c .session .station) (c .session) m)
+unfolding mayCharge
+taken-in c id s m h says =
+    says-taken c id s (c .session .station) m says (rw (h, eq-eqb (c .session .station) (c .session .station) refl))

@@ -23,13 +23,9 @@ use Rattle.demands.specs.Says.{Says}
 use Rattle.demands.specs.Apart.{Event, Came, after, afterAll, ended}
 use Rattle.demands.specs.Gone.{estGone}
 use Rattle.demands.specs.Ends.{isCharging, isStopping, endsBy, leavesBy, EndedBy, ByCem, ByCst, StoppedBy, AtCcs, AtCst, AtCem}
-use Rattle.demands.proofs.Came.{Comes, Unmoved, Took, came, says-taken}
+use Rattle.demands.proofs.Came.{Comes, Unmoved, Took, came, station-is, taken-in}
 use Rattle.demands.proofs.Messages.{ends-message, leaves-message}
 use Rattle.demands.proofs.Gone.{est-gone}
-
-second : (t u v : Bool) → t ≡ false → cond t u v ≡ true → v ≡ true
-second true u v h e = absurd (false≢true (sym h))
-second false u v h e = e
 
 and-left : (a b : Bool) → (a && b) ≡ true → a ≡ true
 and-left true b e = refl
@@ -38,13 +34,6 @@ and-left false b e = e
 and-right : (a b : Bool) → (a && b) ≡ true → b ≡ true
 and-right true b e = e
 and-right false b e = absurd (false≢true e)
-
--- in an open session a charge message goes further only from the session's station
-station-is : (c : Controller) (source : ℕ) → isIdle (c .session .state) ≡ false → mayCharge c source ≡ true → source ≡ c .session .station
-unfolding mayCharge
-station-is c source h e =
-    eqb-true source (c .session .station)
-    (second (isIdle (c .session .state)) (listed source (c .settings .stations)) (eqb source (c .session .station)) h e)
 
 charging-open : (st : State) → isCharging st ≡ true → isIdle st ≡ false
 unfolding isCharging isIdle
@@ -66,14 +55,6 @@ module _ (x : Settings) (source : ℕ) (s : Session) (m : ChargeMessage) where
   pub which-message-ends-a-charge : isCharging (s .state) ≡ true → isCharging (messageOf x source s m .session .state) ≡ not (leavesBy m)
   unfolding messageOf appliedOf
   which-message-ends-a-charge = leaves-message x source (s .station) (s .silence) (s .count) (s .state) m
-
--- what the session's station says in an open session is taken
-taken-in : (c : Controller) (id : ℕ) (s : List ℕ) (m : ChargeMessage) → isIdle (c .session .state) ≡ false
-    → Says (c .settings) (c .session .station) m id s
-    → frameTo c id s ≡ withSession c (messageOf (c .settings) (c .session .station) (c .session) m)
-unfolding mayCharge
-taken-in c id s m h says =
-    says-taken c id s (c .session .station) m says (rw (h, eq-eqb (c .session .station) (c .session .station) refl))
 
 module _ (c : Controller) (id : ℕ) (s : List ℕ) where
   abbrev Its : ChargeMessage → Type 0

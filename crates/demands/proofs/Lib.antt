@@ -14,4 +14,7 @@ pub mod Silent
 pub mod Together
 pub mod Unmoved
 pub mod Since
+pub mod ReachFrames
+pub mod ReachStretches
 pub mod Reach
+pub mod ReachRun

@@ -65,6 +65,12 @@ unfolding heard endsWithin afterAll
 alone st [] c d a k o = record { ends = same-ended c d a; until = λ f. a .session }
 alone st (e ∷ es) c d a k o = one-more st e es (alone st es) c d a k o (reaches st e) refl
 
+-- over a list in which the session stays open, what it cannot hear may be left out
+pub left-out : (c : Controller) (st : ℕ) (es : List Event) → c .session .station ≡ st → ended c ≡ false → endsWithin c (heard st es) ≡ false
+    → afterAll c es .session ≡ afterAll c (heard st es) .session
+left-out c st es k o f =
+    let t : Together c c es (heard st es) = alone st es c c (record { settings = refl; session = refl }) k o in t .until (t .ends ∙ f)
+
 module _ (c d : Controller) (ks ls : List Event) (o : ended c ≡ false) (a : Alike c d)
     (same : heard (c .session .station) ks ≡ heard (c .session .station) ls) where
   abbrev st : ℕ

@@ -1,15 +1,89 @@
--- A session cannot be kept from Charging by others: the words of the station's side of the handshake (01, "Session by message").
-use mathlib.Core.Bool.{Bool, true, false, cond, _&&_}
+-- A session cannot be kept from Charging by others: what it is for a station whose CIM was taken to follow the handshake (01, "Session by
+-- message"). It goes in stretches, each ended by one frame of the station: until its CVM; if that was 00, until its CVM AA; until its last CMP;
+-- until its CRM AA. In each it may repeat itself and say other things besides, in any number and order.
+use Prim.Native.Nat.{ℕ, _+_, _≤_, _<_}
+use mathlib.Core.Path.{_≡_}
+use mathlib.Core.Bool.{Bool, true, false, not, _&&_}
 use mathlib.Core.List.{List, [], _∷_}
+use lib.IntN.{ℤ}
+use Rattle.settings.specs.declared.Settings.{Settings}
+use Rattle.readings.specs.declared.Readings.{Readings}
 use Rattle.readings.specs.Readings.{wantedOf}
+use Rattle.charge_messages.specs.declared.Offer.{Offer}
+use Rattle.charge_messages.specs.declared.ChargeMessage.{ChargeMessage}
+use Rattle.charge_messages.specs.declared.ChargeMessage.the-variants.{Cim, Cvm, Cmp, Crm, Ccs, Cst, Cem}
+use Rattle.phases.specs.Phases.{startPhase}
+use Rattle.states.specs.declared.State.the-variants.{Charging}
+use Rattle.outcomes.specs.Offer.{acceptedOf, stationMost}
+use Rattle.outcomes.specs.Message.{goneOut}
+use Rattle.session.specs.declared.Session.{Session}
 use Rattle.demands.specs.Apart.{Event, Came, Beaten, Wrote, accepts}
+use Rattle.demands.specs.Says.{Says}
 
--- only ticks; and charge is wanted on each that is accepted
-unfoldable pub waits : Event → Bool
-waits (Came id s) = false
-waits (Beaten r v t old) = cond (accepts r v t old) (wantedOf r) true
-waits (Wrote old) = false
+-- the session where Charging begins, with the offer of the station's last CMP
+abbrev pub chargingWith : Settings → ℕ → Offer → Session
+chargingWith x st o =
+    record { station = st; silence = 0; count = 0; state = Charging (startPhase (x .current) (stationMost o)) }
 
-unfoldable pub allWait : List Event → Bool
-allWait [] = true
-allWait (e ∷ es) = waits e && allWait es
+pub data Stretch : Type 0 where
+  UntilCvm : Stretch
+  UntilVerified : Stretch
+  UntilCmp : Stretch
+  UntilCrm : Stretch
+
+-- What the station may say besides, `n` accepted ticks into a stretch: not CST and CEM, by which it would stop or end the session, and not what
+-- would move the handshake on at another place than is meant. So CVM may come here as long as no EIM has gone out, and CRM AA as long as no ECP
+-- has, or no ERM since the last CMP: there they are refused. CMP may come often, accepted or not, up to the last one. In Offered a CIM is heard;
+-- later it goes by `Passing`
+unfoldable pub besides : Stretch → ℕ → ChargeMessage → Bool
+besides UntilCvm n Cim = true
+besides UntilVerified n Cim = false
+besides UntilCmp n Cim = false
+besides UntilCrm n Cim = false
+besides UntilCvm n (Cvm b) = not (goneOut 0 n)
+besides UntilVerified n (Cvm b) = not b
+besides UntilCmp n (Cvm b) = true
+besides UntilCrm n (Cvm b) = true
+besides UntilCvm n (Cmp o) = true
+besides UntilVerified n (Cmp o) = true
+besides UntilCmp n (Cmp o) = true
+besides UntilCrm n (Cmp o) = false
+besides UntilCvm n (Crm b) = true
+besides UntilVerified n (Crm b) = true
+besides UntilCmp n (Crm b) = not (b && goneOut 5 n)
+besides UntilCrm n (Crm b) = not (b && goneOut 0 n)
+besides k n (Ccs b) = true
+besides k n (Cst b) = false
+besides k n Cem = false
+
+-- what may come at any time, and leaves silence alone: a frame by which the station says no charge message (another's, a cell query, or one that 3
+-- to 10 refuse) or only a CIM; a refused tick; settings written
+unfoldable pub Passing : Settings → ℕ → Event → Type 0
+Passing x st (Came id s) = (m : ChargeMessage) → Says x st m id s → m ≡ Cim
+Passing x st (Beaten r v t old) = accepts r v t old ≡ false
+Passing x st (Wrote old) = Unit {0}
+
+-- the station `st` of a controller with the settings `x`; `o` is the offer of its last CMP
+module _ (x : Settings) (st : ℕ) (o : Offer) where
+  -- over a list of events, from a place `n` accepted ticks into a stretch and `b` after the station was last heard, the station follows the
+  -- handshake up to its CRM AA
+  pub data Follows : Stretch → ℕ → ℕ → List Event → Type 0 where
+    Passes : {k : Stretch} {n b : ℕ} {e : Event} {es : List Event} → Passing x st e → Follows k n b es → Follows k n b (e ∷ es)
+    -- an accepted tick: charge is wanted, and fewer than 200 have gone by since the station was last heard
+    Ticks : {k : Stretch} {n b : ℕ} {r : Readings} {v : List ℕ} {t : List ℤ} {old : List ℕ} {es : List Event}
+        → accepts r v t old ≡ true → wantedOf r ≡ true → b < 200
+        → Follows k (n + 1) (b + 1) es → Follows k n b (Beaten r v t old ∷ es)
+    Speaks : {k : Stretch} {n b id : ℕ} {s : List ℕ} {m : ChargeMessage} {es : List Event}
+        → Says x st m id s → besides k n m ≡ true → Follows k n 0 es → Follows k n b (Came id s ∷ es)
+    -- after at least 1 tick CVM: 00, and AA at any time later, or AA at once
+    Delays : {n b id : ℕ} {s : List ℕ} {es : List Event}
+        → Says x st (Cvm false) id s → 1 ≤ n → Follows UntilVerified 0 0 es → Follows UntilCvm n b (Came id s ∷ es)
+    VerifiesLater : {n b id : ℕ} {s : List ℕ} {es : List Event}
+        → Says x st (Cvm true) id s → Follows UntilCmp 0 0 es → Follows UntilVerified n b (Came id s ∷ es)
+    Verifies : {n b id : ℕ} {s : List ℕ} {es : List Event}
+        → Says x st (Cvm true) id s → 1 ≤ n → Follows UntilCmp 0 0 es → Follows UntilCvm n b (Came id s ∷ es)
+    -- after at least 6 ticks a CMP that the yes rule accepts
+    Offers : {n b id : ℕ} {s : List ℕ} {es : List Event}
+        → Says x st (Cmp o) id s → acceptedOf x o ≡ true → 6 ≤ n → Follows UntilCrm 0 0 es → Follows UntilCmp n b (Came id s ∷ es)
+    -- after at least 1 tick CRM AA
+    Starts : {n b id : ℕ} {s : List ℕ} → Says x st (Crm true) id s → 1 ≤ n → Follows UntilCrm n b (Came id s ∷ [])
