@@ -24,6 +24,7 @@ use Rattle.session.specs.Message.{messageOf}
 use Rattle.controller.specs.declared.Controller.{Controller}
 use Rattle.controller.specs.declared.Answer.{Answer}
 use Rattle.controller.specs.Frame.{refused, notCan, flagsSet, notForUs, badSource, isIdle, listed, mayCharge, withSession, contentTaken, chargeTo, withQueries, queryTo, messageTo, knownTo, frameTo}
+use Rattle.demands.proofs.Tests.{second}
 use Rattle.demands.specs.Says.{chargeOf, Says}
 
 -- both ways of a test come to the same
@@ -150,10 +151,6 @@ module _ (c : Controller) (id : ℕ) (s : List ℕ) where
   pub says-refused : (st : ℕ) (m : ChargeMessage) → Says (c .settings) st m id s → mayCharge c st ≡ false → frameTo c id s ≡ refused 9 c
   unfolding frameTo knownTo messageTo chargeTo
   says-refused st m h may = rw (h .can, h .flags, h .target, h .other, h .pf, h .long, h .source, may)
-
-second : (t u v : Bool) → t ≡ false → cond t u v ≡ true → v ≡ true
-second true u v h e = absurd (false≢true (sym h))
-second false u v h e = e
 
 -- in an open session a charge message goes further only from the session's station
 pub station-is : (c : Controller) (source : ℕ) → isIdle (c .session .state) ≡ false → mayCharge c source ≡ true → source ≡ c .session .station

@@ -7,6 +7,7 @@ use mathlib.Core.Bool.{Bool, true, false, not, cond, _&&_, false≢true}
 use mathlib.Core.List.{List}
 use borrow.Author.Tests.{eqb-true, eq-eqb}
 use lib.Dec.{eqb, ltb}
+use Rattle.buffers.proofs.Tests.{and-left, and-right}
 use Rattle.messages.specs.Identifier.{partsOf}
 use Rattle.settings.specs.declared.Settings.{Settings}
 use Rattle.charge_messages.specs.declared.ChargeMessage.{ChargeMessage}
@@ -26,14 +27,6 @@ use Rattle.demands.specs.Ends.{isCharging, isStopping, endsBy, leavesBy,
 use Rattle.demands.proofs.Came.{Comes, Unmoved, Took, came, station-is, taken-in}
 use Rattle.demands.proofs.Messages.{ends-message, leaves-message}
 use Rattle.demands.proofs.Gone.{est-gone}
-
-and-left : (a b : Bool) → (a && b) ≡ true → a ≡ true
-and-left true b e = refl
-and-left false b e = e
-
-and-right : (a b : Bool) → (a && b) ≡ true → b ≡ true
-and-right true b e = e
-and-right false b e = absurd (false≢true e)
 
 charging-open : (st : State) → isCharging st ≡ true → isIdle st ≡ false
 unfolding isCharging isIdle

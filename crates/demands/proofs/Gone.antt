@@ -39,6 +39,7 @@ use Rattle.demands.specs.Machine.{On, paperNext, seenOf, framesSeen}
 use Rattle.demands.specs.Apart.{Event, Came, Beaten, Wrote, callOf, accepts, after, afterAll}
 use Rattle.demands.specs.Ends.{isStopping}
 use Rattle.demands.specs.Gone.{holdsEst, sendsEst, goneAfter, estGone}
+use Rattle.demands.proofs.Tests.{and-false, or-left, or-right}
 use Rattle.demands.proofs.Came.{Comes, Unmoved, Took, came}
 use Rattle.demands.proofs.Messages.{mk, enters-anew, stays-stopping}
 
@@ -47,10 +48,6 @@ abbrev Agrees : Bool → Session → Type 0
 Agrees gone s = isStopping (s .state) ≡ true → ltb 0 (s .count) ≡ gone
 
 -- ---- a message
-and-false : (a b : Bool) → a ≡ true → (a && b) ≡ false → b ≡ false
-and-false true b h e = e
-and-false false b h e = absurd (false≢true h)
-
 module _ (x : Settings) (source a b n : ℕ) (m : ChargeMessage) where
   abbrev next : State → Session
   next st = sessionAfter source (mk a b n st) (outcomeOf x st n m)
@@ -110,9 +107,6 @@ module _ (gone : Bool) (c : Controller) (h : Agrees gone (c .session)) where
       (ap (λ (z : Answer). isStopping (z .controller .session .state)) (sym k) ∙ p))
 
 -- ---- a tick
-or-left : (a b : Bool) → a ≡ true → (a || b) ≡ true
-or-left a b h = rw h
-
 module _ (c : Controller) (r : Readings) (k : Cells) (rest : List Frame) where
   abbrev station : ℕ
   station = c .session .station
@@ -154,10 +148,6 @@ module _ (c : Controller) (r : Readings) (k : Cells) (rest : List Frame) where
       → Sends (literalTick (c .settings) r k (c .session)) (sentOf (c .settings) r k (c .session))
   unfolding literalTick sentOf
   tick-sends h = turn-sends (turnIn (c .settings) r k (c .session)) h
-
-or-right : (a b : Bool) → b ≡ true → (a || b) ≡ true
-or-right true b h = refl
-or-right false b h = h
 
 module _ (gone : Bool) (c : Controller) (h : Agrees gone (c .session)) (r : Readings) (v : List ℕ) (t : List ℤ) (old : List ℕ) where
   accepted-frames : accepts r v t old ≡ true → framesSeen (seenOf paperNext (On c) (callOf (Beaten r v t old))) ≡ tickFrames c r v t

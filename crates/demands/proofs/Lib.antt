@@ -1,3 +1,4 @@
+pub mod Tests
 pub mod Steps
 pub mod Demand2
 pub mod Calls

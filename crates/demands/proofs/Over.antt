@@ -20,11 +20,8 @@ use Rattle.controller.specs.declared.Answer.{Answer}
 use Rattle.controller.specs.Frame.{refused, isIdle, mayCharge, listed, withSession, frameTo}
 use Rattle.demands.specs.Says.{Says}
 use Rattle.demands.specs.Over.{openedWith, Opens, Ignored}
+use Rattle.demands.proofs.Tests.{first}
 use Rattle.demands.proofs.Came.{Comes, Unmoved, Took, came, says-taken, says-refused}
-
-first : (t u v : Bool) → t ≡ true → cond t u v ≡ true → u ≡ true
-first true u v h e = e
-first false u v h e = absurd (false≢true h)
 
 -- in Idle the list decides
 listed-is : (c : Controller) (source : ℕ) → c .session .state ≡ Idle → mayCharge c source ≡ true → listed source (c .settings .stations) ≡ true

@@ -32,6 +32,7 @@ use Rattle.demands.specs.Says.{Says}
 use Rattle.demands.specs.Over.{openedWith}
 use Rattle.demands.specs.Reach.{chargingWith, Stretch, UntilCvm, UntilVerified, UntilCmp, UntilCrm, besides, Passing}
 use Rattle.demands.specs.Reach.{Follows, Passes, Ticks, Speaks, Delays, VerifiesLater, Verifies, Offers, Starts}
+use Rattle.demands.proofs.Tests.{or-false}
 use Rattle.demands.proofs.Apart.{kept-settings}
 use Rattle.demands.proofs.Over.{each-opens}
 use Rattle.demands.proofs.Together.{left-out}
@@ -43,9 +44,6 @@ use Rattle.demands.proofs.ReachStretches.{Still, at-cim, cvm-delays, cv
 record Good (z : Session) (c : Controller) (es : List Event) : Type 0 where
   stays : endsWithin c es ≡ false
   last : afterAll c es .session ≡ z
-
-or-false : (a b : Bool) → a ≡ false → b ≡ false → (a || b) ≡ false
-or-false a b h k = rw (h, k)
 
 good-step : (z : Session) (c : Controller) (e : Event) (es : List Event) → ended c ≡ false → Good z (after c e) es → Good z c (e ∷ es)
 unfolding endsWithin afterAll

@@ -8,6 +8,7 @@ use mathlib.Core.List.{List, [], _∷_}
 use lib.Dec.{eqb, leb, ltb}
 use lib.IntN.{ℤ, pos}
 use borrow.Author.Tests.{leb-true, leb-false, lt-leb}
+use Rattle.buffers.proofs.Tests.{and-left, and-right}
 use Rattle.settings.specs.declared.Settings.{Settings}
 use Rattle.readings.specs.declared.Readings.{Readings}
 use Rattle.readings.specs.Readings.{wantedOf, aboveOf, inRange, currentOk}
@@ -36,6 +37,8 @@ use Rattle.demands.specs.Machine.{paperNext}
 use Rattle.demands.specs.Apart.{Event, Came, Beaten, Wrote, accepts, after, ended, fromStation, reaches, Alike}
 use Rattle.demands.specs.Silent.{quietAt, silent, ticked, ticksIn, endsWithin, repeated, EndsBy, longest}
 use Rattle.demands.specs.Over.{openedWith}
+use Rattle.demands.proofs.Tests.{or-false}
+use Rattle.demands.proofs.Messages.{mk}
 use Rattle.demands.proofs.Apart.{unreached, kept-open}
 
 -- the ticks that a silent session has left, at most
@@ -188,14 +191,6 @@ quiet-unheard : (t : Bool) → not t ≡ true → t ≡ false
 quiet-unheard true h = absurd (false≢true h)
 quiet-unheard false h = refl
 
-and-left : (a b : Bool) → (a && b) ≡ true → a ≡ true
-and-left true b h = refl
-and-left false b h = h
-
-and-right : (a b : Bool) → (a && b) ≡ true → b ≡ true
-and-right true b h = h
-and-right false b h = absurd (false≢true h)
-
 tick-falls : (c : Controller) (r : Readings) (v : List ℕ) (t : List ℤ) (b : Bool) → ended c ≡ false
     → cond b 1 0 + left (cond b (paperNext c r v t) c .session) ≤ left (c .session)
 unfolding paperNext ended
@@ -242,9 +237,6 @@ within-801 c es q h =
     spent (c .session .station) es c (λ o. refl) q (omega (arith, most (c .session .state) (c .session .silence) (c .session .count)))
 
 -- ---- and 800 are not enough
-abbrev mk : ℕ → ℕ → ℕ → State → Session
-mk a b n st = record { station = a; silence = b; count = n; state = st }
-
 module _ (x : Settings) (r : Readings) (c : Cells) (a b n : ℕ) where
   error-tick : leb 600 n ≡ false → literalTick x r c (mk a b n Error) ≡ mk a b (n + 1) Error
   unfolding literalTick literalAdvance literalIn counted turnedBy turnIn turnOf errorOf
@@ -257,9 +249,6 @@ module _ (x : Settings) (r : Readings) (c : Cells) (a b n : ℕ) where
   offered-tick : leb 200 b ≡ false → wantedOf r ≡ true → literalTick x r c (mk a b n Offered) ≡ mk a (b + 1) (n + 1) Offered
   unfolding literalTick literalAdvance literalIn grown turnedBy turnIn turnOf waitingOf
   offered-tick h w = rw (h, w)
-
-or-false : (a b : Bool) → a ≡ false → b ≡ false → (a || b) ≡ false
-or-false a b h k = rw (h, k)
 
 module _ (r : Readings) (v : List ℕ) (t : List ℤ) (old : List ℕ) (taken : accepts r v t old ≡ true) (wants : wantedOf r ≡ true) where
   abbrev beat : Event

@@ -23,7 +23,7 @@ use Rattle.demands.specs.Machine.{paperNext}
 use Rattle.demands.specs.Apart.{Event, Beaten, accepts, after, ended}
 use Rattle.demands.specs.Ends.{isCharging, isStopping}
 use Rattle.demands.specs.Stops.{beforeCharging, isError, tickEnds, tickErrs, tickStops, whyOf, LeadsTo}
-use Rattle.demands.proofs.Turned.{turnState, after-tick, turn-idle, turn-error, turn-stop, turn-on, turn-why, turn-waits, turn-stopping, turn-erring, after-why, after-waits}
+use Rattle.demands.proofs.Turned.{turnState, charging-any, after-tick, turn-idle, turn-error, turn-stop, turn-on, turn-why, turn-waits, turn-stopping, turn-erring, after-why, after-waits}
 
 idle-any : (p q : Phase) → isIdle (Charging p) ≡ isIdle (Charging q)
 unfolding isIdle
@@ -32,10 +32,6 @@ idle-any p q = refl
 error-any : (p q : Phase) → isError (Charging p) ≡ isError (Charging q)
 unfolding isError
 error-any p q = refl
-
-charging-any : (p q : Phase) → isCharging (Charging p) ≡ isCharging (Charging q)
-unfolding isCharging
-charging-any p q = refl
 
 stopping-any : (p q : Phase) → isStopping (Charging p) ≡ isStopping (Charging q)
 unfolding isStopping

@@ -365,11 +365,11 @@ module _ (x : Settings) (r : Readings) (c : Cells) (n silence : ℕ) where
   turn-erring Error h = close-stays isError Error (leb 600 n) refl refl
 
 -- ---- from the state that a turn leads to, to the state after the tick
-module _ (x : Settings) (r : Readings) (c : Cells) where
-  charging-any : (p q : Phase) → isCharging (Charging p) ≡ isCharging (Charging q)
-  unfolding isCharging
-  charging-any p q = refl
+pub charging-any : (p q : Phase) → isCharging (Charging p) ≡ isCharging (Charging q)
+unfolding isCharging
+charging-any p q = refl
 
+module _ (x : Settings) (r : Readings) (c : Cells) where
   counts-why : (w : Why) (s : Session) (st : State) → s .state ≡ st → LeadsTo x r c w st → LeadsTo x r c w (literalIn s st .state)
   unfolding LeadsTo stoppedFor literalIn counted
   counts-why Silence s st h e = ap (λ (z : State). literalIn s z .state) e
