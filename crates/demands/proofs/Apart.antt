@@ -7,10 +7,7 @@ use lib.Dec.{eqb, ltb}
 use lib.IntN.{ℤ}
 use lib.ListN.{length}
 use borrow.Author.Tests.{eqb-true}
-use Rattle.frames.specs.declared.Frame.{Frame}
-use Rattle.messages.specs.declared.received.Charge.{Charge}
 use Rattle.messages.specs.declared.received.Query.{Query}
-use Rattle.messages.specs.declared.received.Message.{Message}
 use Rattle.messages.specs.declared.received.Message.the-variants as message
 use Rattle.messages.specs.declared.received.Recognized.{Recognized}
 use Rattle.messages.specs.declared.received.Recognized.the-variants as recognized
@@ -38,10 +35,10 @@ use Rattle.controller.specs.declared.Controller.{Controller}
 use Rattle.controller.specs.declared.Answer.{Answer}
 use Rattle.controller.specs.Frame.{isIdle, mayCharge, withSession, contentTaken, chargeTo, withQueries, queryTo, messageTo, knownTo, frameTo}
 use Rattle.controller.specs.Frame.{listed, notCan, flagsSet, notForUs, badSource, refused}
-use Rattle.controller.specs.Tick.{tickNumber, accepted, chargeFrames}
-use Rattle.demands.specs.Machine.{Call, Box, On, paperNext, boxAfter}
+use Rattle.controller.specs.Tick.{accepted, chargeFrames}
+use Rattle.demands.specs.Machine.{On, paperNext, boxAfter}
 use Rattle.demands.specs.Apart.{Event, Came, Beaten, Wrote, callOf, accepts, after, ended, queryIn, isQuery}
-use Rattle.demands.specs.Apart.{fromStation, reaches, heard, Moment, Told, Sent, sentAt, moments, life, Alike}
+use Rattle.demands.specs.Apart.{fromStation, reaches, heard, Moment, Told, sentAt, moments, life, Alike}
 
 -- the controller after an event is the machine's
 pub after-is : (c : Controller) (e : Event) → boxAfter paperNext (On c) (callOf e) ≡ On (after c e)

@@ -1,14 +1,11 @@
 -- Demand 2, of the entry points themselves: whatever is called, in whatever order, what the calls gave is exactly what the paper's machine
 -- gives: its numbers, its bytes and, as their records in the buffers, its frames; and the controller in use is in step with the machine's. It follows from the entry points'
 -- promises alone. Assumes nothing.
-use Prim.Native.Nat.{ℕ}
 use mathlib.Core.Path.{_≡_, refl, sym, ap, _∙_}
 use mathlib.Core.List.{List, [], _∷_}
-use Rattle.controller.specs.declared.Answer.{Answer}
-use Rattle.controller.specs.Tick.{tickNext, TickIs}
-use Rattle.settings.specs.Write.{Wrote}
-use Rattle.demands.specs.Machine.{Call, Box, Off, On, Seen, Nothing, Gave, paperNext, boxAfter, seenOf, run, boxAt}
-use Rattle.demands.specs.InStep.{InStep, codeBox}
+use Rattle.controller.specs.Tick.{tickNext}
+use Rattle.demands.specs.Machine.{Box, Off, On, paperNext, boxAfter, seenOf, run, boxAt}
+use Rattle.demands.specs.InStep.{InStep}
 use Rattle.demands.specs.Calls.{Made, DidRead, DidReceive, DidTick, DidWrite, callIn, Keeps, boxThen, inHand, plain, AllKeep, callsIn, allInHand, allPlain, boxLast}
 use Rattle.demands.proofs.Demand2.{tick-is-the-machine, frame-is-the-machine, read-is-the-machine, write-is-the-machine, demand-2}
 

@@ -16,7 +16,6 @@ use Rattle.messages.specs.declared.received.Recognized.the-variants as recogniz
 use Rattle.messages.specs.Identifier.{partsOf}
 use Rattle.messages.specs.Received.{rowOf, recognizedOf}
 use Rattle.charge_messages.specs.declared.ChargeMessage.{ChargeMessage}
-use Rattle.charge_messages.specs.declared.ChargeMessage.the-variants.{Cim, Cvm, Cmp, Crm, Ccs, Cst, Cem}
 use Rattle.charge_messages.specs.declared.Content.{Content}
 use Rattle.charge_messages.specs.declared.Content.the-variants as content
 use Rattle.charge_messages.specs.Content.{contentOf}

@@ -3,10 +3,9 @@
 -- it is CCS 00, CST or CEM. For every identifier and data, after every run. Assumes nothing.
 use Prim.Native.Nat.{ℕ}
 use mathlib.Core.Path.{_≡_, refl, sym, ap, subst, _∙_}
-use mathlib.Core.Bool.{Bool, true, false, not, cond, _&&_, false≢true}
+use mathlib.Core.Bool.{Bool, true, false, not, false≢true}
 use mathlib.Core.List.{List}
-use borrow.Author.Tests.{eqb-true, eq-eqb}
-use lib.Dec.{eqb, ltb}
+use lib.Dec.{ltb}
 use Rattle.buffers.proofs.Tests.{and-left, and-right}
 use Rattle.messages.specs.Identifier.{partsOf}
 use Rattle.settings.specs.declared.Settings.{Settings}
@@ -18,7 +17,7 @@ use Rattle.session.specs.declared.Session.{Session}
 use Rattle.session.specs.Message.{appliedOf, messageOf}
 use Rattle.controller.specs.declared.Controller.{Controller}
 use Rattle.controller.specs.declared.Answer.{Answer}
-use Rattle.controller.specs.Frame.{isIdle, mayCharge, listed, withSession, frameTo}
+use Rattle.controller.specs.Frame.{isIdle, withSession, frameTo}
 use Rattle.controller.specs.Start.{freshOf}
 use Rattle.demands.specs.Says.{Says}
 use Rattle.demands.specs.Apart.{Event, Came, after, afterAll, ended}

@@ -7,7 +7,6 @@ use mathlib.Core.Bool.{Bool, true, false, cond, _&&_, _||_, false≢true}
 use mathlib.Core.List.{List, [], _∷_, _++_}
 use lib.Dec.{eqb, ltb}
 use lib.IntN.{ℤ}
-use lib.ListN.{length}
 use borrow.Author.Tests.{lt-ltb, eq-eqb}
 use Rattle.messages.specs.Table.{EST}
 use Rattle.messages.specs.Identifier.{partsOf, identifierOf}
@@ -34,7 +33,7 @@ use Rattle.controller.specs.declared.Controller.{Controller}
 use Rattle.controller.specs.declared.Answer.{Answer}
 use Rattle.controller.specs.Start.{freshOf}
 use Rattle.controller.specs.Frame.{withSession, frameTo}
-use Rattle.controller.specs.Tick.{tickNumber, tickFrames, chargeFrames, broadcastFrames, cellFrames, accepted}
+use Rattle.controller.specs.Tick.{tickFrames, chargeFrames, broadcastFrames, cellFrames, accepted}
 use Rattle.demands.specs.Machine.{On, paperNext, seenOf, framesSeen}
 use Rattle.demands.specs.Apart.{Event, Came, Beaten, Wrote, callOf, accepts, after, afterAll}
 use Rattle.demands.specs.Ends.{isStopping}

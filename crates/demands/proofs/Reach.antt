@@ -4,7 +4,7 @@
 use Prim.Native.Nat.{ℕ, _+_, _≤_, _<_}
 use native.Mathlib.Omega.{arith}
 use mathlib.Core.Path.{_≡_, refl, ap, sym, subst, _∙_}
-use mathlib.Core.Bool.{Bool, true, false, cond, _||_}
+use mathlib.Core.Bool.{true, false, cond}
 use mathlib.Core.List.{List, [], _∷_}
 use lib.IntN.{ℤ}
 use borrow.Author.Tests.{lt-leb}
@@ -19,7 +19,7 @@ use Rattle.charge_messages.specs.declared.ChargeMessage.the-variants.{Cim, Cvm,
 use Rattle.states.specs.declared.State.{State}
 use Rattle.states.specs.declared.State.the-variants.{Idle, Offered, Unverified, Parameters, Ready}
 use Rattle.outcomes.specs.Offer.{stationMost}
-use Rattle.outcomes.specs.Message.{outcomeOf, inIdle}
+use Rattle.outcomes.specs.Message.{outcomeOf}
 use Rattle.session.specs.declared.Session.{Session}
 use Rattle.session.specs.Message.{sessionAfter, appliedOf, messageOf}
 use Rattle.literal.specs.Literal.{literalTick}

@@ -1,7 +1,7 @@
 -- A frame in an open session: the session's station says a charge message by it, and the session takes that message, or the session is as it was.
 -- Assumes nothing.
 use Prim.Native.Nat.{ℕ}
-use mathlib.Core.Path.{_≡_, refl, ap, sym, subst, _∙_}
+use mathlib.Core.Path.{_≡_, ap, sym, subst, _∙_}
 use mathlib.Core.Bool.{false}
 use mathlib.Core.List.{List}
 use Rattle.messages.specs.declared.received.Charge.{Charge}

@@ -4,19 +4,17 @@ use mathlib.Core.Path.{_≡_, refl, ap, _∙_}
 use mathlib.Core.Bool.{Bool, true, false, cond}
 use mathlib.Core.List.{List, [], _∷_, _++_}
 use lib.IntN.{ℤ}
-use lib.ListN.{length}
 use Rattle.frames.specs.declared.Frame.{Frame}
 use Rattle.readings.specs.declared.Readings.{Readings}
 use Rattle.settings.specs.declared.SettingsRead.{SettingsRead}
 use Rattle.settings.specs.declared.SettingsRead.the-variants as read
 use Rattle.settings.specs.Read.{readOf}
 use Rattle.controller.specs.declared.Controller.{Controller}
-use Rattle.controller.specs.declared.Answer.{Answer}
 use Rattle.controller.specs.Start.{freshOf, startWith, startOf}
 use Rattle.controller.specs.Frame.{frameTo}
 use Rattle.controller.specs.Tick.{chargeFrames, broadcastFrames, cellFrames, tickFrames, accepted}
 use Rattle.demands.specs.Machine.{Call, Read, Receive, Tick, Write, Box, Off, On, Gave, paperNext, started, boxAfter, seenOf, boxAt, numberSeen, framesSeen}
-use Rattle.demands.specs.Apart.{Event, Came, Beaten, Wrote, callOf, accepts, after, afterAll, sentAt}
+use Rattle.demands.specs.Apart.{Event, Came, Beaten, callOf, accepts, after, afterAll, sentAt}
 use Rattle.demands.specs.Unmoved.{broadcastsAt, cellsAt}
 use Rattle.demands.specs.Since.{Since, InUse}
 

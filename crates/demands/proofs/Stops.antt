@@ -20,7 +20,7 @@ use Rattle.literal.specs.Literal.{literalTick}
 use Rattle.controller.specs.declared.Controller.{Controller}
 use Rattle.controller.specs.Frame.{isIdle}
 use Rattle.demands.specs.Machine.{paperNext}
-use Rattle.demands.specs.Apart.{Event, Beaten, accepts, after, ended}
+use Rattle.demands.specs.Apart.{Beaten, accepts, after, ended}
 use Rattle.demands.specs.Ends.{isCharging, isStopping}
 use Rattle.demands.specs.Stops.{beforeCharging, isError, tickEnds, tickErrs, tickStops, whyOf, LeadsTo}
 use Rattle.demands.proofs.Turned.{turnState, charging-any, after-tick, turn-idle, turn-error, turn-stop, turn-on, turn-why, turn-waits, turn-stopping, turn-erring, after-why, after-waits}

@@ -6,9 +6,7 @@ use mathlib.Core.List.{List, [], _∷_, _++_}
 use lib.Dec.{ltb}
 use lib.IntN.{ℤ}
 use lib.ListN.{length}
-use Rattle.messages.specs.declared.received.Charge.{Charge}
 use Rattle.messages.specs.declared.received.Query.{Query}
-use Rattle.messages.specs.declared.received.Message.{Message}
 use Rattle.messages.specs.declared.received.Message.the-variants as message
 use Rattle.messages.specs.declared.received.Recognized.{Recognized}
 use Rattle.messages.specs.declared.received.Recognized.the-variants as recognized
@@ -29,7 +27,7 @@ use Rattle.controller.specs.Frame.{notCan, flagsSet, notForUs, badSource, refus
 use Rattle.controller.specs.Tick.{broadcastFrames, cellFrames}
 use Rattle.demands.specs.Machine.{paperNext}
 use Rattle.demands.specs.Apart.{Event, Came, Beaten, Wrote, accepts, after, chargeIn, isCharge}
-use Rattle.demands.specs.Unmoved.{charging, others, Said, Answered, Broadcast, broadcastsAt, cellsAt, saidAt, said, Beside}
+use Rattle.demands.specs.Unmoved.{charging, others, Said, broadcastsAt, cellsAt, saidAt, said, Beside}
 use Rattle.demands.proofs.Apart.{made, choice, choices}
 
 -- ---- a charge message leaves all but the session

@@ -1,15 +1,12 @@
 -- Demand 3, first half: whatever other addresses send, an open session goes as it would without them, up to its end.
 use Prim.Native.Nat.{ℕ}
-use mathlib.Core.Bool.{Bool, true, false, not, cond, _&&_, _||_}
+use mathlib.Core.Bool.{Bool, true, false, not, cond, _&&_}
 use mathlib.Core.List.{List, [], _∷_, _++_}
 use mathlib.Core.Path.{_≡_}
 use lib.Dec.{eqb}
 use lib.IntN.{ℤ}
 use lib.ListN.{length}
 use Rattle.frames.specs.declared.Frame.{Frame}
-use Rattle.messages.specs.declared.received.Charge.{Charge}
-use Rattle.messages.specs.declared.received.Query.{Query}
-use Rattle.messages.specs.declared.received.Message.{Message}
 use Rattle.messages.specs.declared.received.Message.the-variants as message
 use Rattle.messages.specs.declared.received.Recognized.{Recognized}
 use Rattle.messages.specs.declared.received.Recognized.the-variants as recognized
@@ -18,7 +15,6 @@ use Rattle.messages.specs.Received.{recognizedOf}
 use Rattle.readings.specs.declared.Readings.{Readings}
 use Rattle.session.specs.declared.Session.{Session}
 use Rattle.controller.specs.declared.Controller.{Controller}
-use Rattle.controller.specs.declared.Answer.{Answer}
 use Rattle.controller.specs.Frame.{frameTo, isIdle}
 use Rattle.controller.specs.Tick.{tickNumber, chargeFrames}
 use Rattle.demands.specs.Machine.{Call, Receive, Tick, Write, paperNext}

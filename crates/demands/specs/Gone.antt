@@ -1,5 +1,5 @@
 -- "An EST has gone out since entry" (01, "Session by message", Stopping), told by the frames that the calls of a run have sent.
-use mathlib.Core.Bool.{Bool, true, false, _&&_, _||_}
+use mathlib.Core.Bool.{Bool, false, _&&_, _||_}
 use mathlib.Core.List.{List, [], _∷_}
 use lib.Dec.{eqb}
 use Rattle.messages.specs.Table.{EST}

@@ -2,7 +2,7 @@
 -- and for settings are the definitions that the entry points promise; how counts go on is the paper's: the number of accepted
 -- ticks, a state's count, silence and a phase's time are one more after each accepted tick, for ever.
 use Prim.Native.Nat.{ℕ, _+_, _*_}
-use mathlib.Core.Bool.{Bool, cond}
+use mathlib.Core.Bool.{cond}
 use mathlib.Core.List.{List, [], _∷_, _++_}
 use lib.IntN.{ℤ}
 use lib.ListN.{length, drop}
@@ -16,12 +16,11 @@ use Rattle.queries.specs.Waiting.{waiting, queriesOf}
 use Rattle.queries.specs.Answering as answering
 use Rattle.literal.specs.Literal.{literalTick}
 use Rattle.controller.specs.declared.Controller.{Controller}
-use Rattle.controller.specs.declared.Answer.{Answer}
 use Rattle.controller.specs.declared.Start.{Start}
 use Rattle.controller.specs.declared.Start.the-variants.{Made, Refused}
 use Rattle.controller.specs.Start.{startOf}
 use Rattle.controller.specs.Frame.{frameTo}
-use Rattle.controller.specs.Tick.{tickNumber, tickFrames, tickNext, accepted}
+use Rattle.controller.specs.Tick.{tickNumber, tickFrames, accepted}
 
 -- a call, with all that it lends: a settings record; a received frame, identifier and data; a tick, its readings, voltages and
 -- temperatures and the buffer as it is; settings written, with the buffer as it is

@@ -1,13 +1,12 @@
 -- Demand 3, second half: charge messages never change a broadcast, a cell answer or the number that a query is given.
 use Prim.Native.Nat.{ℕ}
 use mathlib.Core.Path.{_≡_}
-use mathlib.Core.Bool.{Bool, true, false, cond}
+use mathlib.Core.Bool.{Bool, false, cond}
 use mathlib.Core.List.{List, [], _∷_, _++_}
 use lib.IntN.{ℤ}
 use Rattle.frames.specs.declared.Frame.{Frame}
 use Rattle.readings.specs.declared.Readings.{Readings}
 use Rattle.controller.specs.declared.Controller.{Controller}
-use Rattle.controller.specs.declared.Answer.{Answer}
 use Rattle.controller.specs.Frame.{frameTo}
 use Rattle.controller.specs.Tick.{broadcastFrames, cellFrames}
 use Rattle.demands.specs.Apart.{Event, Came, Beaten, Wrote, accepts, after, isCharge}
