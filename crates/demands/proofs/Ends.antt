@@ -22,7 +22,8 @@ use Rattle.controller.specs.Start.{freshOf}
 use Rattle.demands.specs.Says.{Says}
 use Rattle.demands.specs.Apart.{Event, Came, after, afterAll, ended}
 use Rattle.demands.specs.Gone.{estGone}
-use Rattle.demands.specs.Ends.{isCharging, isStopping, endsBy, leavesBy, EndedBy, ByCem, ByCst, StoppedBy, AtCcs, AtCst, AtCem}
+use Rattle.demands.specs.Kinds.{isCharging, isStopping}
+use Rattle.demands.specs.Ends.{endsBy, leavesBy, EndedBy, ByCem, ByCst, StoppedBy, AtCcs, AtCst, AtCem}
 use Rattle.demands.proofs.Came.{Comes, Unmoved, Took, came, station-is, taken-in}
 use Rattle.demands.proofs.Messages.{ends-message, leaves-message}
 use Rattle.demands.proofs.Gone.{est-gone}

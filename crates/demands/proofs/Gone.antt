@@ -36,7 +36,7 @@ use Rattle.controller.specs.Frame.{withSession, frameTo}
 use Rattle.controller.specs.Tick.{tickFrames, chargeFrames, broadcastFrames, cellFrames, accepted}
 use Rattle.demands.specs.Machine.{On, paperNext, seenOf, framesSeen}
 use Rattle.demands.specs.Apart.{Event, Came, Beaten, Wrote, callOf, accepts, after, afterAll}
-use Rattle.demands.specs.Ends.{isStopping}
+use Rattle.demands.specs.Kinds.{isStopping}
 use Rattle.demands.specs.Gone.{holdsEst, sendsEst, goneAfter, estGone}
 use Rattle.demands.proofs.Tests.{and-false, or-left, or-right}
 use Rattle.demands.proofs.Came.{Comes, Unmoved, Took, came}

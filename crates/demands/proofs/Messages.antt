@@ -15,7 +15,8 @@ use Rattle.outcomes.specs.Message.{outcomeOf, inIdle, inOffered, inUnverified, 
 use Rattle.session.specs.declared.Session.{Session}
 use Rattle.session.specs.Message.{sessionAfter}
 use Rattle.controller.specs.Frame.{isIdle}
-use Rattle.demands.specs.Ends.{isCharging, isStopping, endsBy, leavesBy}
+use Rattle.demands.specs.Kinds.{isCharging, isStopping}
+use Rattle.demands.specs.Ends.{endsBy, leavesBy}
 use Rattle.demands.proofs.Came.{same}
 
 abbrev pub mk : ℕ → ℕ → ℕ → State → Session

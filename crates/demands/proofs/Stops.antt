@@ -1,126 +1,129 @@
--- Exactly which tick ends a session, finds its station silent, or stops a charge, and why (01, "Session by tick"): those of `tickEnds`,
--- `tickErrs` and `tickStops`, for every session, settings, readings and cells, first with the code's counts and with the paper's, then of
--- the calls; and every other tick leaves the state as it was. Assumes nothing.
+-- "Exactly which tick ends or stops a session, and why" (01, "Session by tick"): an accepted tick leads where the first of the paper's rules that
+-- holds says, from every state, and a refused one changes nothing. So which ticks end a session, and which end a charge. Assumes nothing.
 use Prim.Native.Nat.{ℕ}
-use mathlib.Core.Path.{_≡_, refl, sym, subst}
-use mathlib.Core.Bool.{Bool, true, false, not, cond, _&&_, _||_, false≢true}
+use mathlib.Core.Path.{_≡_, refl, sym, ap, _∙_}
+use mathlib.Core.Bool.{Bool, true, false, not, cond, _&&_, false≢true}
 use mathlib.Core.List.{List}
 use lib.IntN.{ℤ}
 use Rattle.settings.specs.declared.Settings.{Settings}
 use Rattle.readings.specs.declared.Readings.{Readings}
 use Rattle.cells.specs.declared.Cells.{Cells}
 use Rattle.cells.specs.Summaries.{cellsOf}
-use Rattle.phases.specs.declared.Phase.{Phase}
 use Rattle.states.specs.declared.State.{State}
 use Rattle.states.specs.declared.State.the-variants.{Idle, Offered, Unverified, Parameters, Ready, Charging, Stopping, Error}
 use Rattle.turns.specs.Turns.{turnOf}
 use Rattle.session.specs.declared.Session.{Session}
-use Rattle.session.specs.Tick.{tickOf}
-use Rattle.literal.specs.Literal.{literalTick}
+use Rattle.session.specs.Tick.{turnedBy, turnIn}
+use Rattle.literal.specs.Literal.{literalIn, literalAdvance, literalTick}
 use Rattle.controller.specs.declared.Controller.{Controller}
 use Rattle.controller.specs.Frame.{isIdle}
 use Rattle.demands.specs.Machine.{paperNext}
 use Rattle.demands.specs.Apart.{Beaten, accepts, after, ended}
-use Rattle.demands.specs.Ends.{isCharging, isStopping}
-use Rattle.demands.specs.Stops.{beforeCharging, isError, tickEnds, tickErrs, tickStops, whyOf, LeadsTo}
-use Rattle.demands.proofs.Turned.{turnState, charging-any, after-tick, turn-idle, turn-error, turn-stop, turn-on, turn-why, turn-waits, turn-stopping, turn-erring, after-why, after-waits}
+use Rattle.demands.specs.Kinds.{isCharging}
+use Rattle.demands.specs.Stops.{Why, GoesOn, Silence, Unwanted, NotWanted, CurrentAbove, PackFull, TimeUp, CellFull, Count600}
+use Rattle.demands.specs.Stops.{whyOf, GoesOnAs, LeadsTo, endsFor, leavesFor}
+use Rattle.demands.proofs.Messages.{mk}
+use Rattle.demands.proofs.Turned.{tick-why}
 
-idle-any : (p q : Phase) → isIdle (Charging p) ≡ isIdle (Charging q)
-unfolding isIdle
-idle-any p q = refl
+pub charging-open : (st : State) → isCharging st ≡ true → isIdle st ≡ false
+unfolding isCharging isIdle
+charging-open Idle h = absurd (false≢true h)
+charging-open Offered h = refl
+charging-open Unverified h = refl
+charging-open Parameters h = refl
+charging-open (Ready y most) h = refl
+charging-open (Charging p) h = refl
+charging-open (Stopping k e) h = refl
+charging-open Error h = refl
 
-error-any : (p q : Phase) → isError (Charging p) ≡ isError (Charging q)
-unfolding isError
-error-any p q = refl
+module _ (x : Settings) (r : Readings) (c : Cells) where
+  on-open : (from to : State) → isIdle from ≡ false → GoesOnAs x r c from to → isIdle to ≡ false
+  unfolding GoesOnAs isIdle
+  on-open Idle to h e = absurd (false≢true (sym h))
+  on-open Offered to h e = ap isIdle e
+  on-open Unverified to h e = ap isIdle e
+  on-open Parameters to h e = ap isIdle e
+  on-open (Ready y most) to h e = ap isIdle e
+  on-open (Charging p) to h e = charging-open to e
+  on-open (Stopping k f) to h e = ap isIdle e
+  on-open Error to h e = ap isIdle e
 
-stopping-any : (p q : Phase) → isStopping (Charging p) ≡ isStopping (Charging q)
-unfolding isStopping
-stopping-any p q = refl
+  leads-idle : (w : Why) (from to : State) → isIdle from ≡ false → LeadsTo x r c from w to → isIdle to ≡ endsFor w
+  unfolding LeadsTo endsFor isIdle
+  leads-idle GoesOn from to h e = on-open from to h e
+  leads-idle Silence from to h e = ap isIdle e
+  leads-idle Unwanted from to h e = ap isIdle e
+  leads-idle NotWanted from to h e = ap isIdle e
+  leads-idle CurrentAbove from to h e = ap isIdle e
+  leads-idle PackFull from to h e = ap isIdle e
+  leads-idle TimeUp from to h e = ap isIdle e
+  leads-idle CellFull from to h e = ap isIdle e
+  leads-idle Count600 from to h e = ap isIdle e
 
-charging-only : (st : State) → isCharging st ≡ true → isStopping st ≡ false
-unfolding isCharging isStopping
-charging-only Idle h = refl
-charging-only Offered h = refl
-charging-only Unverified h = refl
-charging-only Parameters h = refl
-charging-only (Ready y most) h = refl
-charging-only (Charging p) h = refl
-charging-only (Stopping k e) h = absurd (false≢true h)
-charging-only Error h = refl
+  on-charging : (from to : State) → isCharging from ≡ true → GoesOnAs x r c from to → isCharging to ≡ true
+  unfolding GoesOnAs isCharging
+  on-charging Idle to h e = absurd (false≢true h)
+  on-charging Offered to h e = absurd (false≢true h)
+  on-charging Unverified to h e = absurd (false≢true h)
+  on-charging Parameters to h e = absurd (false≢true h)
+  on-charging (Ready y most) to h e = absurd (false≢true h)
+  on-charging (Charging p) to h e = e
+  on-charging (Stopping k f) to h e = absurd (false≢true h)
+  on-charging Error to h e = absurd (false≢true h)
 
-module _ (x : Settings) (r : Readings) (c : Cells) (s : Session) where
-  -- an open session is ended by a tick
-  pub what-tick-ends : isIdle (s .state) ≡ false
-      → (isIdle (tickOf x r c s .state) ≡ tickEnds r s) × (isIdle (literalTick x r c s .state) ≡ tickEnds r s)
-  unfolding tickEnds
-  what-tick-ends h = after-tick isIdle idle-any x r c s (tickEnds r s) (turn-idle x r c (s .count) (s .silence) (s .state) h)
+  leads-charging : (w : Why) (from to : State) → isCharging from ≡ true → LeadsTo x r c from w to → isCharging to ≡ not (leavesFor w)
+  unfolding LeadsTo leavesFor isCharging
+  leads-charging GoesOn from to h e = on-charging from to h e
+  leads-charging Silence from to h e = ap isCharging e
+  leads-charging Unwanted from to h e = ap isCharging e
+  leads-charging NotWanted from to h e = ap isCharging e
+  leads-charging CurrentAbove from to h e = ap isCharging e
+  leads-charging PackFull from to h e = ap isCharging e
+  leads-charging TimeUp from to h e = ap isCharging e
+  leads-charging CellFull from to h e = ap isCharging e
+  leads-charging Count600 from to h e = ap isCharging e
 
-  -- Error is entered
-  pub what-tick-errs : isError (s .state) ≡ false
-      → (isError (tickOf x r c s .state) ≡ tickErrs s) × (isError (literalTick x r c s .state) ≡ tickErrs s)
-  unfolding tickErrs
-  what-tick-errs h = after-tick isError error-any x r c s (tickErrs s) (turn-error x r c (s .count) (s .silence) (s .state) h)
+  idle-in : (a b n : ℕ) (st : State) → st ≡ Idle → literalTick x r c (mk a b n st) ≡ mk a b n st
+  unfolding literalTick literalAdvance literalIn turnedBy turnIn turnOf
+  idle-in a b n st h =
+      ap (λ (z : State). literalTick x r c (mk a b n z)) h ∙ ap (λ (z : State). mk a b n z) (sym h)
 
-  -- Charging goes to Stopping
-  pub what-tick-stops : isCharging (s .state) ≡ true
-      → (isStopping (tickOf x r c s .state) ≡ tickStops x r c s) × (isStopping (literalTick x r c s .state) ≡ tickStops x r c s)
-  unfolding tickStops
-  what-tick-stops h =
-      after-tick isStopping stopping-any x r c s (tickStops x r c s) (turn-stop x r c (s .count) (s .silence) (s .state) h)
-
-  -- Charging goes on otherwise
-  pub what-tick-charges : isCharging (s .state) ≡ true → isCharging (literalTick x r c s .state) ≡ not (tickErrs s || tickStops x r c s)
-  unfolding tickErrs tickStops
-  what-tick-charges h =
-      after-tick isCharging charging-any x r c s (not (tickErrs s || tickStops x r c s)) (turn-on x r c (s .count) (s .silence) (s .state) h) .1
-
-  -- before Charging the state is the same otherwise
-  pub what-tick-leaves : beforeCharging (s .state) ≡ true → tickEnds r s ≡ false → tickErrs s ≡ false → literalTick x r c s .state ≡ s .state
-  unfolding tickEnds tickErrs
-  what-tick-leaves h e f = after-waits x r c s h (turn-waits x r c (s .count) (s .silence) (s .state) h e f)
-
-  -- Stopping and Error go on otherwise
-  pub what-tick-closes : (isStopping (s .state) ≡ true → isStopping (literalTick x r c s .state) ≡ not (tickEnds r s))
-      × (isError (s .state) ≡ true → isError (literalTick x r c s .state) ≡ not (tickEnds r s))
-  unfolding tickEnds
-  what-tick-closes = (
-    λ h. after-tick isStopping stopping-any x r c s (not (tickEnds r s)) (turn-stopping x r c (s .count) (s .silence) (s .state) h) .1,
-    λ h. after-tick isError error-any x r c s (not (tickEnds r s)) (turn-erring x r c (s .count) (s .silence) (s .state) h) .1,
-  )
-
--- why a tick takes a session out of Charging: in the paper's order, and with the EST bytes that say so
-pub why-tick-stops : (x : Settings) (r : Readings) (c : Cells) (s : Session) (p : Phase) → s .state ≡ Charging p
-    → LeadsTo x r c (whyOf x r c (s .silence) p) (literalTick x r c s .state)
-unfolding whyOf
-why-tick-stops x r c s p h =
-    after-why x r c (whyOf x r c (s .silence) p) s
-    (subst (λ (z : State). LeadsTo x r c (whyOf x r c (s .silence) p) (turnState (turnOf x r c z (s .count) (s .silence)))) (sym h)
-    (turn-why x r c (s .count) (s .silence) p))
-
--- of the calls: a refused tick does none of this, and an accepted one all of it
 module _ (c : Controller) (r : Readings) (v : List ℕ) (t : List ℤ) (old : List ℕ) where
-  abbrev then-session : Session
-  then-session = after c (Beaten r v t old) .session
+  abbrev why : Why
+  why = whyOf (c .settings) r (cellsOf v t) (c .session)
 
-  by-call : (f : State → Bool) (b : Bool) → f (c .session .state) ≡ false → f (literalTick (c .settings) r (cellsOf v t) (c .session) .state) ≡ b
-      → f (then-session .state) ≡ (accepts r v t old && b)
+  -- THE ANSWER for ticks: an accepted one leads where its reason says
+  pub what-a-tick-does : accepts r v t old ≡ true
+      → LeadsTo (c .settings) r (cellsOf v t) (c .session .state) why (after c (Beaten r v t old) .session .state)
   unfolding after paperNext
-  by-call f b h e = either (accepts r v t old)
+  what-a-tick-does h = rw h (tick-why (c .settings) r (cellsOf v t) (c .session))
+
+  -- a refused one changes nothing
+  pub what-a-refused-tick-does : accepts r v t old ≡ false → after c (Beaten r v t old) ≡ c
+  unfolding after
+  what-a-refused-tick-does h = rw h
+
+  -- in Idle the session's record is the same, accepted or not
+  pub what-a-tick-does-in-idle : c .session .state ≡ Idle → after c (Beaten r v t old) .session ≡ c .session
+  unfolding after paperNext
+  what-a-tick-does-in-idle h = either (accepts r v t old)
     where
-      either : (k : Bool) → f (cond k (paperNext c r v t) c .session .state) ≡ (k && b)
-      either true = e
-      either false = h
+      either : (b : Bool) → cond b (paperNext c r v t) c .session ≡ c .session
+      either true = idle-in (c .settings) r (cellsOf v t) (c .session .station) (c .session .silence) (c .session .count) (c .session .state) h
+      either false = refl
 
-  pub which-tick-ends : ended c ≡ false → ended (after c (Beaten r v t old)) ≡ (accepts r v t old && tickEnds r (c .session))
+  pub which-tick-ends-a-session : ended c ≡ false → ended (after c (Beaten r v t old)) ≡ (accepts r v t old && endsFor why)
   unfolding ended
-  which-tick-ends h =
-      by-call isIdle (tickEnds r (c .session)) h (what-tick-ends (c .settings) r (cellsOf v t) (c .session) h .1)
+  which-tick-ends-a-session o = either (accepts r v t old) refl
+    where
+      either : (b : Bool) → accepts r v t old ≡ b → isIdle (after c (Beaten r v t old) .session .state) ≡ (b && endsFor why)
+      either true h = leads-idle (c .settings) r (cellsOf v t) why (c .session .state) _ o (what-a-tick-does h)
+      either false h = ap (λ (z : Controller). isIdle (z .session .state)) (what-a-refused-tick-does h) ∙ o
 
-  pub which-tick-errs : isError (c .session .state) ≡ false → isError (then-session .state) ≡ (accepts r v t old && tickErrs (c .session))
-  which-tick-errs h = by-call isError (tickErrs (c .session)) h (what-tick-errs (c .settings) r (cellsOf v t) (c .session) h .1)
-
-  pub which-tick-stops : isCharging (c .session .state) ≡ true
-      → isStopping (then-session .state) ≡ (accepts r v t old && tickStops (c .settings) r (cellsOf v t) (c .session))
-  which-tick-stops h =
-      by-call isStopping (tickStops (c .settings) r (cellsOf v t) (c .session)) (charging-only (c .session .state) h)
-      (what-tick-stops (c .settings) r (cellsOf v t) (c .session) h .1)
+  pub which-tick-ends-a-charge : isCharging (c .session .state) ≡ true
+      → isCharging (after c (Beaten r v t old) .session .state) ≡ not (accepts r v t old && leavesFor why)
+  which-tick-ends-a-charge o = either (accepts r v t old) refl
+    where
+      either : (b : Bool) → accepts r v t old ≡ b → isCharging (after c (Beaten r v t old) .session .state) ≡ not (b && leavesFor why)
+      either true h = leads-charging (c .settings) r (cellsOf v t) why (c .session .state) _ o (what-a-tick-does h)
+      either false h = ap (λ (z : Controller). isCharging (z .session .state)) (what-a-refused-tick-does h) ∙ o

@@ -8,29 +8,9 @@ use lib.Dec.{ltb}
 use Rattle.charge_messages.specs.declared.ChargeMessage.{ChargeMessage}
 use Rattle.charge_messages.specs.declared.ChargeMessage.the-variants.{Cim, Cvm, Cmp, Crm, Ccs, Cst, Cem}
 use Rattle.states.specs.declared.State.{State}
-use Rattle.states.specs.declared.State.the-variants.{Idle, Offered, Unverified, Parameters, Ready, Charging, Stopping, Error}
 use Rattle.controller.specs.declared.Controller.{Controller}
+use Rattle.demands.specs.Kinds.{isStopping}
 use Rattle.demands.specs.Says.{Says}
-
-unfoldable pub isCharging : State → Bool
-isCharging Idle = false
-isCharging Offered = false
-isCharging Unverified = false
-isCharging Parameters = false
-isCharging (Ready accepted most) = false
-isCharging (Charging p) = true
-isCharging (Stopping acknowledged est) = false
-isCharging Error = false
-
-unfoldable pub isStopping : State → Bool
-isStopping Idle = false
-isStopping Offered = false
-isStopping Unverified = false
-isStopping Parameters = false
-isStopping (Ready accepted most) = false
-isStopping (Charging p) = false
-isStopping (Stopping acknowledged est) = true
-isStopping Error = false
 
 -- which charge messages end an open session, by its state and count: CEM; CST AA in Stopping, once an EST has gone out since Stopping
 -- began (Stopping sends an EST at each tick, and its count is the ticks that it has had)

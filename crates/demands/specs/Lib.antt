@@ -2,6 +2,7 @@ pub mod Machine
 pub mod InStep
 pub mod Calls
 pub mod WorkedRows
+pub mod Kinds
 pub mod Says
 pub mod Ends
 pub mod Over
