@@ -14,6 +14,9 @@ use Rattle.messages.specs.declared.received.Recognized.the-variants as recogniz
 use Rattle.messages.specs.Identifier.{partsOf}
 use Rattle.messages.specs.Received.{recognizedOf, rowOf}
 use Rattle.settings.specs.declared.Settings.{Settings}
+use Rattle.settings.specs.declared.SettingsRead.{SettingsRead}
+use Rattle.settings.specs.declared.SettingsRead.the-variants as read
+use Rattle.settings.specs.Read.{readOf}
 use Rattle.readings.specs.declared.Readings.{Readings}
 use Rattle.cells.specs.declared.Cells.{Cells}
 use Rattle.charge_messages.specs.declared.Content.{Content}
@@ -36,16 +39,23 @@ use Rattle.controller.specs.declared.Answer.{Answer}
 use Rattle.controller.specs.Frame.{isIdle, mayCharge, withSession, contentTaken, chargeTo, withQueries, queryTo, messageTo, knownTo, frameTo}
 use Rattle.controller.specs.Frame.{listed, notCan, flagsSet, notForUs, badSource, refused}
 use Rattle.controller.specs.Tick.{accepted, chargeFrames}
-use Rattle.demands.specs.Machine.{On, paperNext, boxAfter}
-use Rattle.demands.specs.Apart.{Event, Came, Beaten, Wrote, callOf, accepts, after, ended, queryIn, isQuery}
+use Rattle.controller.specs.Start.{freshOf, startWith, startOf}
+use Rattle.demands.specs.Machine.{started, On, paperNext, boxAfter}
+use Rattle.demands.specs.Apart.{Event, Came, Beaten, Wrote, Reread, callOf, accepts, readInto, isRead, after, ended, queryIn, isQuery}
 use Rattle.demands.specs.Apart.{fromStation, reaches, heard, Moment, Told, sentAt, moments, life, Alike}
+
+read-into : (a : SettingsRead) (c : Controller) → started (startWith a) (On c) ≡ On (readInto a c)
+unfolding started startWith readInto
+read-into (read.Read x) c = refl
+read-into (read.Refused n) c = refl
 
 -- the controller after an event is the machine's
 pub after-is : (c : Controller) (e : Event) → boxAfter paperNext (On c) (callOf e) ≡ On (after c e)
-unfolding boxAfter after accepted accepts
+unfolding boxAfter after accepted accepts startOf
 after-is c (Came id s) = refl
 after-is c (Beaten r v t old) = refl
 after-is c (Wrote old) = refl
+after-is c (Reread s) = read-into (readOf s) c
 
 -- ---- a choice by a test
 pub choice : (P : Answer → Type 0) (t : Bool) (a b : Answer) → (t ≡ true → P a) → (t ≡ false → P b) → P (cond t a b)
@@ -206,11 +216,17 @@ module _ (c : Controller) (o : ended c ≡ false) where
   kept-choice st true d e k = k
   kept-choice st false d e k = λ h. sym e
 
+  kept-read : (a : SettingsRead) → Kept (c .session .station) (readInto a c .session)
+  unfolding readInto freshOf isIdle
+  kept-read (read.Read x) h = absurd (false≢true (sym h))
+  kept-read (read.Refused n) h = refl
+
   pub kept-event : (e : Event) → Kept (c .session .station) (after c e .session)
   unfolding after paperNext
   kept-event (Came id s) = kept-frame id s
   kept-event (Beaten r v t old) = kept-choice (c .session .station) (accepts r v t old) (paperNext c r v t) refl (kept-tick (c .settings) r _ (c .session))
   kept-event (Wrote old) = λ h. refl
+  kept-event (Reread s) = kept-read (readOf s)
 
 pub kept-open : (c : Controller) (e : Event) → ended c ≡ false → ended (after c e) ≡ false → after c e .session .station ≡ c .session .station
 unfolding ended
@@ -269,11 +285,17 @@ module _ (c d : Controller) (a : Alike c d) where
   unfolding paperNext
   alike-next r v t = record { settings = a .settings; session = rw (a .settings, a .session) }
 
+  alike-read : (s : SettingsRead) → Alike (readInto s c) (readInto s d)
+  unfolding readInto
+  alike-read (read.Read x) = record { settings = refl; session = refl }
+  alike-read (read.Refused n) = a
+
   pub alike-event : (e : Event) → Alike (after c e) (after d e)
   unfolding after
   alike-event (Came id s) = same-frame id s .alike
   alike-event (Beaten r v t old) = alike-choice (accepts r v t old) _ _ (alike-next r v t)
   alike-event (Wrote old) = a
+  alike-event (Reread s) = alike-read (readOf s)
 
   told : (id : ℕ) (l : List ℕ) (t : Bool) → (t ≡ true → isQuery id ≡ false)
       → cond t (Told (frameTo c id l .number) (frameTo c id l .controller .session) ∷ []) []
@@ -292,19 +314,27 @@ module _ (c d : Controller) (a : Alike c d) where
       ∙ ap (λ (z : Session). cond (fromStation (z .station) id) (Told (frameTo d id s .number) (frameTo d id s .controller .session) ∷ []) []) (a .session)
   same-moments (Beaten r v t old) = rw (sent-same r v t, alike-event (Beaten r v t old) .session)
   same-moments (Wrote old) = refl
+  same-moments (Reread s) = refl
 
 -- ---- an event that does not reach the session leaves it as it was, and is not seen
+unread : (a : SettingsRead) (c : Controller) → isRead a ≡ false → Alike (readInto a c) c
+unfolding isRead readInto
+unread (read.Read x) c h = absurd (false≢true (sym h))
+unread (read.Refused n) c h = record { settings = refl; session = refl }
+
 pub unreached : (c : Controller) (e : Event) → ended c ≡ false → reaches (c .session .station) e ≡ false → Alike (after c e) c
 unfolding after reaches
 unreached c (Came id s) o h = record { settings = kept-settings c id s; session = unheard-stays c id s o h }
 unreached c (Beaten r v t old) o h = absurd (false≢true (sym h))
 unreached c (Wrote old) o h = record { settings = refl; session = refl }
+unreached c (Reread s) o h = unread (readOf s) c h
 
 unseen : (c : Controller) (e : Event) → reaches (c .session .station) e ≡ false → moments c e ≡ []
 unfolding moments reaches
 unseen c (Came id s) h = rw h
 unseen c (Beaten r v t old) h = absurd (false≢true (sym h))
 unseen c (Wrote old) h = refl
+unseen c (Reread s) h = rw h
 
 -- ---- a session's life over the events is its life over those that it can hear
 -- the rest of a life, as long as there is a session

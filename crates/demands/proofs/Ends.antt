@@ -1,43 +1,67 @@
--- The insurer's first question: a frame ends a session exactly where it comes from the session's own station, no check refuses it, and it is
--- a CEM, or a CST AA in Stopping after an EST of ours has gone out since Stopping began; and it ends a charge exactly where it comes from that station, no check refuses it, and
--- it is CCS 00, CST or CEM. For every identifier and data, after every run. Assumes nothing.
+-- The insurer's first question, "which message, in which state, may end a charge?": exactly the events of `EndsSession` end a session, after any
+-- run, and exactly those of `EndsCharge` end a charge. Assumes nothing.
 use Prim.Native.Nat.{ℕ}
 use mathlib.Core.Path.{_≡_, refl, sym, ap, subst, _∙_}
-use mathlib.Core.Bool.{Bool, true, false, not, false≢true}
+use mathlib.Core.Bool.{Bool, true, false, not, _&&_, false≢true}
 use mathlib.Core.List.{List}
 use lib.Dec.{ltb}
 use Rattle.buffers.proofs.Tests.{and-left, and-right}
 use Rattle.messages.specs.Identifier.{partsOf}
 use Rattle.settings.specs.declared.Settings.{Settings}
+use Rattle.settings.specs.declared.SettingsRead.{SettingsRead}
+use Rattle.settings.specs.declared.SettingsRead.the-variants as read
+use Rattle.settings.specs.Read.{readOf}
+use Rattle.cells.specs.Summaries.{cellsOf}
 use Rattle.charge_messages.specs.declared.ChargeMessage.{ChargeMessage}
 use Rattle.charge_messages.specs.declared.ChargeMessage.the-variants.{Cim, Cvm, Cmp, Crm, Ccs, Cst, Cem}
 use Rattle.states.specs.declared.State.{State}
 use Rattle.states.specs.declared.State.the-variants.{Idle, Offered, Unverified, Parameters, Ready, Charging, Stopping, Error}
+use Rattle.outcomes.specs.declared.Outcome.the-variants.{Refuse}
+use Rattle.outcomes.specs.Message.{outcomeOf, inStopping}
 use Rattle.session.specs.declared.Session.{Session}
-use Rattle.session.specs.Message.{appliedOf, messageOf}
+use Rattle.session.specs.Message.{sessionAfter, appliedOf, messageOf}
 use Rattle.controller.specs.declared.Controller.{Controller}
 use Rattle.controller.specs.declared.Answer.{Answer}
-use Rattle.controller.specs.Frame.{isIdle, withSession, frameTo}
+use Rattle.controller.specs.Frame.{refused, isIdle, withSession, frameTo}
 use Rattle.controller.specs.Start.{freshOf}
 use Rattle.demands.specs.Says.{Says}
-use Rattle.demands.specs.Apart.{Event, Came, after, afterAll, ended}
+use Rattle.demands.specs.Apart.{Event, Came, Beaten, Wrote, Reread, accepts, readInto, isRead, after, afterAll, ended}
 use Rattle.demands.specs.Gone.{estGone}
 use Rattle.demands.specs.Kinds.{isCharging, isStopping}
-use Rattle.demands.specs.Ends.{endsBy, leavesBy, EndedBy, ByCem, ByCst, StoppedBy, AtCcs, AtCst, AtCem}
+use Rattle.demands.specs.Stops.{whyOf, endsFor, leavesFor}
+use Rattle.demands.specs.Ends.{endsBy, leavesBy, EndsSession, ByCem, ByCst, ByTick, ByReading, EndsCharge, AtCcs, AtCst, AtCem, AtTick, AtReading}
 use Rattle.demands.proofs.Came.{Comes, Unmoved, Took, came, station-is, taken-in}
 use Rattle.demands.proofs.Messages.{ends-message, leaves-message}
 use Rattle.demands.proofs.Gone.{est-gone}
+use Rattle.demands.proofs.Stops.{charging-open, which-tick-ends-a-session, which-tick-ends-a-charge}
 
-charging-open : (st : State) → isCharging st ≡ true → isIdle st ≡ false
-unfolding isCharging isIdle
-charging-open Idle h = absurd (false≢true h)
-charging-open Offered h = refl
-charging-open Unverified h = refl
-charging-open Parameters h = refl
-charging-open (Ready y most) h = refl
-charging-open (Charging p) h = refl
-charging-open (Stopping k e) h = refl
-charging-open Error h = refl
+stopping-open : (st : State) → isStopping st ≡ true → isIdle st ≡ false
+unfolding isStopping isIdle
+stopping-open Idle h = absurd (false≢true h)
+stopping-open Offered h = refl
+stopping-open Unverified h = refl
+stopping-open Parameters h = refl
+stopping-open (Ready y most) h = refl
+stopping-open (Charging p) h = refl
+stopping-open (Stopping k e) h = refl
+stopping-open Error h = refl
+
+-- a CST AA in Stopping at count 0
+early-in : (x : Settings) (n : ℕ) (st : State) → isStopping st ≡ true → ltb 0 n ≡ false → outcomeOf x st n (Cst true) ≡ Refuse
+unfolding isStopping outcomeOf inStopping
+early-in x n Idle h g = absurd (false≢true h)
+early-in x n Offered h g = absurd (false≢true h)
+early-in x n Unverified h g = absurd (false≢true h)
+early-in x n Parameters h g = absurd (false≢true h)
+early-in x n (Ready y most) h g = absurd (false≢true h)
+early-in x n (Charging p) h g = absurd (false≢true h)
+early-in x n (Stopping k e) h g = rw g
+early-in x n Error h g = absurd (false≢true h)
+
+refuses-early : (c : Controller) → ltb 0 (c .session .count) ≡ false → isStopping (c .session .state) ≡ true
+    → withSession c (messageOf (c .settings) (c .session .station) (c .session) (Cst true)) ≡ refused 11 c
+unfolding withSession messageOf appliedOf sessionAfter
+refuses-early c g h = rw (early-in (c .settings) (c .session .count) (c .session .state) h g)
 
 -- in an open session, exactly which messages end it, and exactly which end its charge
 module _ (x : Settings) (source : ℕ) (s : Session) (m : ChargeMessage) where
@@ -49,14 +73,18 @@ module _ (x : Settings) (source : ℕ) (s : Session) (m : ChargeMessage) where
   unfolding messageOf appliedOf
   which-message-ends-a-charge = leaves-message x source (s .station) (s .silence) (s .count) (s .state) m
 
+-- ---- frames
 module _ (c : Controller) (id : ℕ) (s : List ℕ) where
   abbrev Its : ChargeMessage → Type 0
   Its m = Says (c .settings) (c .session .station) m id s
 
+  abbrev gone-by-count : Bool
+  gone-by-count = ltb 0 (c .session .count)
+
   its : (m : ChargeMessage) (source : ℕ) → source ≡ c .session .station → Says (c .settings) source m id s → Its m
   its m source e says = subst (λ (z : ℕ). Says (c .settings) z m id s) e says
 
-  ended-by : (m : ChargeMessage) → Its m → endsBy (c .session .state) (c .session .count) m ≡ true → EndedBy (ltb 0 (c .session .count)) c id s
+  ended-by : (m : ChargeMessage) → Its m → endsBy (c .session .state) (c .session .count) m ≡ true → EndsSession gone-by-count c (Came id s)
   unfolding endsBy
   ended-by Cim h e = absurd (false≢true e)
   ended-by (Cvm v) h e = absurd (false≢true e)
@@ -64,12 +92,11 @@ module _ (c : Controller) (id : ℕ) (s : List ℕ) where
   ended-by (Crm v) h e = absurd (false≢true e)
   ended-by (Ccs v) h e = absurd (false≢true e)
   ended-by (Cst true) h e =
-      ByCst h (and-left (isStopping (c .session .state)) (ltb 0 (c .session .count)) e)
-      (and-right (isStopping (c .session .state)) (ltb 0 (c .session .count)) e)
+      ByCst h (and-left (isStopping (c .session .state)) gone-by-count e) (and-right (isStopping (c .session .state)) gone-by-count e)
   ended-by (Cst false) h e = absurd (false≢true e)
   ended-by Cem h e = ByCem h
 
-  stopped-by : (m : ChargeMessage) → Its m → false ≡ not (leavesBy m) → StoppedBy c id s
+  stopped-by : (m : ChargeMessage) → Its m → false ≡ not (leavesBy m) → EndsCharge c (Came id s)
   unfolding leavesBy
   stopped-by Cim h e = absurd (false≢true e)
   stopped-by (Cvm v) h e = absurd (false≢true e)
@@ -77,11 +104,11 @@ module _ (c : Controller) (id : ℕ) (s : List ℕ) where
   stopped-by (Crm v) h e = absurd (false≢true e)
   stopped-by (Ccs true) h e = absurd (false≢true e)
   stopped-by (Ccs false) h e = AtCcs h
-  stopped-by (Cst v) h e = AtCst v h
+  stopped-by (Cst v) h e = AtCst h
   stopped-by Cem h e = AtCem h
 
   ended-came : (a : Answer) → Comes c id s a → isIdle (c .session .state) ≡ false → isIdle (a .controller .session .state) ≡ true
-      → EndedBy (ltb 0 (c .session .count)) c id s
+      → EndsSession gone-by-count c (Came id s)
   unfolding withSession messageOf appliedOf
   ended-came a (Unmoved k n) h e = absurd (false≢true (sym h ∙ (ap (λ (t : Session). isIdle (t .state)) (sym k) ∙ e)))
   ended-came a (Took m says may k) h e =
@@ -90,18 +117,13 @@ module _ (c : Controller) (id : ℕ) (s : List ℕ) where
       ∙ (ap (λ (t : Answer). isIdle (t .controller .session .state)) (sym k) ∙ e))
 
   stopped-came : (a : Answer) → Comes c id s a → isCharging (c .session .state) ≡ true → isCharging (a .controller .session .state) ≡ false
-      → StoppedBy c id s
+      → EndsCharge c (Came id s)
   unfolding withSession messageOf appliedOf
   stopped-came a (Unmoved k n) h e = absurd (false≢true (sym e ∙ (ap (λ (t : Session). isCharging (t .state)) k ∙ h)))
   stopped-came a (Took m says may k) h e =
       stopped-by m (its m (partsOf id .source) (station-is c (partsOf id .source) (charging-open (c .session .state) h) may) says)
       ((sym e ∙ ap (λ (t : Answer). isCharging (t .controller .session .state)) k)
       ∙ which-message-ends-a-charge (c .settings) (partsOf id .source) (c .session) m h)
-
-  -- what ends a session, of one call in any state, the EST told by Stopping's count
-  pub frame-ends-a-session : isIdle (c .session .state) ≡ false → isIdle (frameTo c id s .controller .session .state) ≡ true
-      → EndedBy (ltb 0 (c .session .count)) c id s
-  frame-ends-a-session = ended-came (frameTo c id s) (came c id s)
 
   its-ends : (m : ChargeMessage) → isIdle (c .session .state) ≡ false → Its m → endsBy (c .session .state) (c .session .count) m ≡ true
       → isIdle (frameTo c id s .controller .session .state) ≡ true
@@ -110,18 +132,6 @@ module _ (c : Controller) (id : ℕ) (s : List ℕ) where
       ap (λ (t : Answer). isIdle (t .controller .session .state)) (taken-in c id s m h says)
       ∙ (which-message-ends-a-session (c .settings) (c .session .station) (c .session) m h ∙ e)
 
-  -- and each of these does
-  pub ends-a-session-by-frame : isIdle (c .session .state) ≡ false → EndedBy (ltb 0 (c .session .count)) c id s
-      → isIdle (frameTo c id s .controller .session .state) ≡ true
-  unfolding endsBy
-  ends-a-session-by-frame h (ByCem says) = its-ends Cem h says refl
-  ends-a-session-by-frame h (ByCst says stopping gone) = its-ends (Cst true) h says (rw (stopping, gone))
-
-  -- what ends a charge
-  pub what-ends-a-charge : isCharging (c .session .state) ≡ true → isCharging (frameTo c id s .controller .session .state) ≡ false
-      → StoppedBy c id s
-  what-ends-a-charge = stopped-came (frameTo c id s) (came c id s)
-
   its-stops : (m : ChargeMessage) → isCharging (c .session .state) ≡ true → Its m → leavesBy m ≡ true
       → isCharging (frameTo c id s .controller .session .state) ≡ false
   unfolding withSession messageOf appliedOf
@@ -129,35 +139,93 @@ module _ (c : Controller) (id : ℕ) (s : List ℕ) where
       ap (λ (t : Answer). isCharging (t .controller .session .state)) (taken-in c id s m (charging-open (c .session .state) h) says)
       ∙ (which-message-ends-a-charge (c .settings) (c .session .station) (c .session) m h ∙ ap not e)
 
-  -- and each of these does
-  pub each-ends-a-charge : isCharging (c .session .state) ≡ true → StoppedBy c id s
-      → isCharging (frameTo c id s .controller .session .state) ≡ false
-  unfolding leavesBy
-  each-ends-a-charge h (AtCcs says) = its-stops (Ccs false) h says refl
-  each-ends-a-charge h (AtCst b says) = its-stops (Cst b) h says refl
-  each-ends-a-charge h (AtCem says) = its-stops Cem h says refl
+-- ---- settings read
+read-idle : (a : SettingsRead) (c : Controller) → isIdle (c .session .state) ≡ false → isIdle (readInto a c .session .state) ≡ isRead a
+unfolding readInto isRead freshOf isIdle
+read-idle (read.Read x) c h = refl
+read-idle (read.Refused n) c h = h
 
--- over any run from a fresh controller: THE ANSWER
-module _ (x : Settings) (es : List Event) (id : ℕ) (s : List ℕ) where
+read-charging : (a : SettingsRead) (c : Controller) → isCharging (c .session .state) ≡ true → isCharging (readInto a c .session .state) ≡ not (isRead a)
+unfolding readInto isRead freshOf isCharging
+read-charging (read.Read x) c h = refl
+read-charging (read.Refused n) c h = h
+
+-- ---- any event, in any state, the EST told by Stopping's count
+not-true : (b : Bool) → false ≡ not b → b ≡ true
+not-true true h = refl
+not-true false h = absurd (false≢true h)
+
+module _ (c : Controller) where
+  ended-event : (e : Event) → ended c ≡ false → ended (after c e) ≡ true → EndsSession (ltb 0 (c .session .count)) c e
+  unfolding ended after
+  ended-event (Came id s) h e = ended-came c id s (frameTo c id s) (came c id s) h e
+  ended-event (Beaten r v t old) h e =
+      let w = sym (which-tick-ends-a-session c r v t old h) ∙ e in
+      ByTick (and-left (accepts r v t old) (endsFor (whyOf (c .settings) r (cellsOf v t) (c .session))) w)
+      (and-right (accepts r v t old) (endsFor (whyOf (c .settings) r (cellsOf v t) (c .session))) w)
+  ended-event (Wrote old) h e = absurd (false≢true (sym h ∙ e))
+  ended-event (Reread s) h e = ByReading (sym (read-idle (readOf s) c h) ∙ e)
+
+  event-ends : (e : Event) → ended c ≡ false → EndsSession (ltb 0 (c .session .count)) c e → ended (after c e) ≡ true
+  unfolding ended after endsBy
+  event-ends e h (ByCem {id = id} {s = s} says) = its-ends c id s Cem h says refl
+  event-ends e h (ByCst {id = id} {s = s} says stopping gone) = its-ends c id s (Cst true) h says (rw (stopping, gone))
+  event-ends e h (ByTick {r = r} {v = v} {t = t} {old = old} k w) = which-tick-ends-a-session c r v t old h ∙ rw (k, w)
+  event-ends e h (ByReading {s = s} k) = read-idle (readOf s) c h ∙ k
+
+  -- THE ANSWER: what ends a charge, in any state whatever
+  pub what-ends-a-charge : (e : Event) → isCharging (c .session .state) ≡ true → isCharging (after c e .session .state) ≡ false → EndsCharge c e
+  unfolding after
+  what-ends-a-charge (Came id s) h e = stopped-came c id s (frameTo c id s) (came c id s) h e
+  what-ends-a-charge (Beaten r v t old) h e =
+      let w = not-true (accepts r v t old && leavesFor (whyOf (c .settings) r (cellsOf v t) (c .session))) (sym e ∙ which-tick-ends-a-charge c r v t old h) in
+      AtTick (and-left (accepts r v t old) (leavesFor (whyOf (c .settings) r (cellsOf v t) (c .session))) w)
+      (and-right (accepts r v t old) (leavesFor (whyOf (c .settings) r (cellsOf v t) (c .session))) w)
+  what-ends-a-charge (Wrote old) h e = absurd (false≢true (sym e ∙ h))
+  what-ends-a-charge (Reread s) h e = AtReading (not-true (isRead (readOf s)) (sym e ∙ read-charging (readOf s) c h))
+
+  -- and each of these does
+  pub each-ends-a-charge : (e : Event) → isCharging (c .session .state) ≡ true → EndsCharge c e → isCharging (after c e .session .state) ≡ false
+  unfolding after leavesBy
+  each-ends-a-charge e h (AtCcs {id = id} {s = s} says) = its-stops c id s (Ccs false) h says refl
+  each-ends-a-charge e h (AtCst {id = id} {s = s} {b = b} says) = its-stops c id s (Cst b) h says refl
+  each-ends-a-charge e h (AtCem {id = id} {s = s} says) = its-stops c id s Cem h says refl
+  each-ends-a-charge e h (AtTick {r = r} {v = v} {t = t} {old = old} k w) = which-tick-ends-a-charge c r v t old h ∙ rw (k, w)
+  each-ends-a-charge e h (AtReading {s = s} k) = read-charging (readOf s) c h ∙ ap not k
+
+-- ---- over any run from a fresh controller, the EST told by the frames sent
+module _ (x : Settings) (es : List Event) where
   abbrev now-in-use : Controller
   now-in-use = afterAll (freshOf x) es
 
-  regone : (g : Bool) → (isStopping (now-in-use .session .state) ≡ true → ltb 0 (now-in-use .session .count) ≡ g)
-      → EndedBy (ltb 0 (now-in-use .session .count)) now-in-use id s → EndedBy g now-in-use id s
-  regone g h (ByCem says) = ByCem says
-  regone g h (ByCst says stopping gone) = ByCst says stopping (sym (h stopping) ∙ gone)
+  abbrev Agrees : Bool → Type 0
+  Agrees g = isStopping (now-in-use .session .state) ≡ true → ltb 0 (now-in-use .session .count) ≡ g
 
-  ungone : (g : Bool) → (isStopping (now-in-use .session .state) ≡ true → ltb 0 (now-in-use .session .count) ≡ g)
-      → EndedBy g now-in-use id s → EndedBy (ltb 0 (now-in-use .session .count)) now-in-use id s
-  ungone g h (ByCem says) = ByCem says
-  ungone g h (ByCst says stopping gone) = ByCst says stopping (h stopping ∙ gone)
+  regone : (g : Bool) (e : Event) → Agrees g → EndsSession (ltb 0 (now-in-use .session .count)) now-in-use e → EndsSession g now-in-use e
+  regone g e h (ByCem says) = ByCem says
+  regone g e h (ByCst says stopping gone) = ByCst says stopping (sym (h stopping) ∙ gone)
+  regone g e h (ByTick k w) = ByTick k w
+  regone g e h (ByReading k) = ByReading k
 
-  pub what-ends-a-session : ended now-in-use ≡ false → ended (after now-in-use (Came id s)) ≡ true
-      → EndedBy (estGone false (freshOf x) es) now-in-use id s
-  unfolding ended after
-  what-ends-a-session h e = regone (estGone false (freshOf x) es) (est-gone x es) (frame-ends-a-session now-in-use id s h e)
+  ungone : (g : Bool) (e : Event) → Agrees g → EndsSession g now-in-use e → EndsSession (ltb 0 (now-in-use .session .count)) now-in-use e
+  ungone g e h (ByCem says) = ByCem says
+  ungone g e h (ByCst says stopping gone) = ByCst says stopping (h stopping ∙ gone)
+  ungone g e h (ByTick k w) = ByTick k w
+  ungone g e h (ByReading k) = ByReading k
 
-  pub each-ends-a-session : ended now-in-use ≡ false → EndedBy (estGone false (freshOf x) es) now-in-use id s
-      → ended (after now-in-use (Came id s)) ≡ true
-  unfolding ended after
-  each-ends-a-session h e = ends-a-session-by-frame now-in-use id s h (ungone (estGone false (freshOf x) es) (est-gone x es) e)
+  -- THE ANSWER: what ends a session
+  pub what-ends-a-session : (e : Event) → ended now-in-use ≡ false → ended (after now-in-use e) ≡ true
+      → EndsSession (estGone false (freshOf x) es) now-in-use e
+  what-ends-a-session e h k = regone (estGone false (freshOf x) es) e (est-gone x es) (ended-event now-in-use e h k)
+
+  -- and each of these does
+  pub each-ends-a-session : (e : Event) → ended now-in-use ≡ false → EndsSession (estGone false (freshOf x) es) now-in-use e
+      → ended (after now-in-use e) ≡ true
+  each-ends-a-session e h k = event-ends now-in-use e h (ungone (estGone false (freshOf x) es) e (est-gone x es) k)
+
+  -- THE INCIDENT's other form: an acknowledgement that comes in Stopping before an EST of ours has gone out is answered 11 and changes nothing
+  pub early-acknowledgement : (id : ℕ) (s : List ℕ) → isStopping (now-in-use .session .state) ≡ true → estGone false (freshOf x) es ≡ false
+      → Says (now-in-use .settings) (now-in-use .session .station) (Cst true) id s → frameTo now-in-use id s ≡ refused 11 now-in-use
+  early-acknowledgement id s h g says =
+      taken-in now-in-use id s (Cst true) (stopping-open (now-in-use .session .state) h) says
+      ∙ refuses-early now-in-use (est-gone x es h ∙ g) h

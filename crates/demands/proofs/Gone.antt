@@ -12,6 +12,9 @@ use Rattle.messages.specs.Table.{EST}
 use Rattle.messages.specs.Identifier.{partsOf, identifierOf}
 use Rattle.frames.specs.declared.Frame.{Frame}
 use Rattle.settings.specs.declared.Settings.{Settings}
+use Rattle.settings.specs.declared.SettingsRead.{SettingsRead}
+use Rattle.settings.specs.declared.SettingsRead.the-variants as read
+use Rattle.settings.specs.Read.{readOf}
 use Rattle.readings.specs.declared.Readings.{Readings}
 use Rattle.cells.specs.declared.Cells.{Cells}
 use Rattle.cells.specs.Summaries.{cellsOf}
@@ -35,7 +38,7 @@ use Rattle.controller.specs.Start.{freshOf}
 use Rattle.controller.specs.Frame.{withSession, frameTo}
 use Rattle.controller.specs.Tick.{tickFrames, chargeFrames, broadcastFrames, cellFrames, accepted}
 use Rattle.demands.specs.Machine.{On, paperNext, seenOf, framesSeen}
-use Rattle.demands.specs.Apart.{Event, Came, Beaten, Wrote, callOf, accepts, after, afterAll}
+use Rattle.demands.specs.Apart.{Event, Came, Beaten, Wrote, Reread, callOf, accepts, readInto, after, afterAll}
 use Rattle.demands.specs.Kinds.{isStopping}
 use Rattle.demands.specs.Gone.{holdsEst, sendsEst, goneAfter, estGone}
 use Rattle.demands.proofs.Tests.{and-false, or-left, or-right}
@@ -181,11 +184,18 @@ module _ (gone : Bool) (c : Controller) (h : Agrees gone (c .session)) (r : Read
   tick-agrees false e = refused-agrees e
 
 -- ---- any event, any run
+read-agrees : (gone : Bool) (c : Controller) → Agrees gone (c .session) → (a : SettingsRead)
+    → Agrees (isStopping (readInto a c .session .state) && ((isStopping (c .session .state) && gone) || false)) (readInto a c .session)
+unfolding readInto freshOf isStopping
+read-agrees gone c h (read.Read x) e = absurd (false≢true e)
+read-agrees gone c h (read.Refused n) e = on-as-it-was gone c h (c .session) refl e
+
 event-agrees : (gone : Bool) (c : Controller) (e : Event) → Agrees gone (c .session) → Agrees (goneAfter gone c e) (after c e .session)
 unfolding goneAfter sendsEst seenOf framesSeen holdsEst after
 event-agrees gone c (Came id s) h = frame-agrees gone c h id s (frameTo c id s) (came c id s)
 event-agrees gone c (Beaten r v t old) h = tick-agrees gone c h r v t old (accepts r v t old) refl
 event-agrees gone c (Wrote old) h = on-as-it-was gone c h (c .session) refl
+event-agrees gone c (Reread s) h = read-agrees gone c h (readOf s)
 
 run-agrees : (gone : Bool) (c : Controller) (es : List Event) → Agrees gone (c .session) → Agrees (estGone gone c es) (afterAll c es .session)
 unfolding estGone afterAll

@@ -4,12 +4,15 @@
 use Prim.Native.Nat.{ℕ, _+_, _≤_, _<_}
 use native.Mathlib.Omega.{arith}
 use mathlib.Core.Path.{_≡_, refl, ap, sym, subst, _∙_}
-use mathlib.Core.Bool.{true, false, cond}
+use mathlib.Core.Bool.{true, false, cond, false≢true}
 use mathlib.Core.List.{List, [], _∷_}
 use lib.IntN.{ℤ}
 use borrow.Author.Tests.{lt-leb}
 use Rattle.messages.specs.Identifier.{partsOf}
 use Rattle.settings.specs.declared.Settings.{Settings}
+use Rattle.settings.specs.declared.SettingsRead.{SettingsRead}
+use Rattle.settings.specs.declared.SettingsRead.the-variants as read
+use Rattle.settings.specs.Read.{readOf}
 use Rattle.readings.specs.declared.Readings.{Readings}
 use Rattle.readings.specs.Readings.{wantedOf}
 use Rattle.cells.specs.Summaries.{cellsOf}
@@ -26,7 +29,7 @@ use Rattle.literal.specs.Literal.{literalTick}
 use Rattle.controller.specs.declared.Controller.{Controller}
 use Rattle.controller.specs.Frame.{isIdle, listed, frameTo}
 use Rattle.demands.specs.Machine.{paperNext}
-use Rattle.demands.specs.Apart.{Event, Came, Beaten, Wrote, accepts, after, afterAll, ended, heard}
+use Rattle.demands.specs.Apart.{Event, Came, Beaten, Wrote, Reread, accepts, readInto, isRead, after, afterAll, ended, heard}
 use Rattle.demands.specs.Silent.{ticked, ticksIn, endsWithin}
 use Rattle.demands.specs.Says.{Says}
 use Rattle.demands.specs.Over.{openedWith}
@@ -147,6 +150,11 @@ module _ (x : Settings) (a : ℕ) (o : Offer) where
     says-here m id s h =
         subst (λ (z : Settings). Says z a m id s) (w .settings) (subst (λ (z : Session). Says (c .settings) (z .station) m id s) (w .session) h)
 
+    now-read : (f : SettingsRead) → isRead f ≡ false → Now k n b (readInto f c)
+    unfolding isRead readInto
+    now-read (read.Read y) h = absurd (false≢true (sym h))
+    now-read (read.Refused m) h = w
+
     now-passes : (e : Event) → Passing x a e → Now k n b (after c e)
     unfolding Passing after
     now-passes (Came id s) h = go (spoken c id s now-open)
@@ -158,6 +166,7 @@ module _ (x : Settings) (a : ℕ) (o : Offer) where
             now-cim id s (subst (λ (z : ChargeMessage). Says x a z id s) (h m f) f)
     now-passes (Beaten r v t old) h = rw h w
     now-passes (Wrote old) h = w
+    now-passes (Reread s) h = now-read (readOf s) h
 
   -- a stretch begins with a message that was taken
   begins : (k : Stretch) (c : Controller) (id : ℕ) (s : List ℕ) (st : State) → c .settings ≡ x → after c (Came id s) .session ≡ mk a 0 0 st

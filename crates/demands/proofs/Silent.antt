@@ -10,6 +10,10 @@ use lib.IntN.{ℤ, pos}
 use borrow.Author.Tests.{leb-true, leb-false, lt-leb}
 use Rattle.buffers.proofs.Tests.{and-left, and-right}
 use Rattle.settings.specs.declared.Settings.{Settings}
+use Rattle.settings.specs.declared.SettingsRead.{SettingsRead}
+use Rattle.settings.specs.declared.SettingsRead.the-variants as read
+use Rattle.settings.specs.Read.{readOf}
+use Rattle.controller.specs.Start.{freshOf}
 use Rattle.readings.specs.declared.Readings.{Readings}
 use Rattle.readings.specs.Readings.{wantedOf, aboveOf, inRange, currentOk}
 use Rattle.cells.specs.declared.Cells.{Cells}
@@ -34,7 +38,7 @@ use Rattle.controller.specs.declared.Controller.{Controller}
 use Rattle.controller.specs.Frame.{isIdle}
 use Rattle.controller.specs.Tick.{tickNumber}
 use Rattle.demands.specs.Machine.{paperNext}
-use Rattle.demands.specs.Apart.{Event, Came, Beaten, Wrote, accepts, after, ended, fromStation, reaches}
+use Rattle.demands.specs.Apart.{Event, Came, Beaten, Wrote, Reread, accepts, readInto, after, ended, fromStation, reaches}
 use Rattle.demands.specs.Silent.{quietAt, silent, ticked, ticksIn, endsWithin, repeated, EndsBy, longest}
 use Rattle.demands.specs.Over.{openedWith}
 use Rattle.demands.proofs.Tests.{or-false}
@@ -197,6 +201,11 @@ unfolding paperNext ended
 tick-falls c r v t true o = let f : left (paperNext c r v t .session) < left (c .session) = falls (c .settings) r (cellsOf v t) (c .session) o in omega arith
 tick-falls c r v t false o = omega arith
 
+read-falls : (a : SettingsRead) (c : Controller) → 0 + left (readInto a c .session) ≤ left (c .session)
+unfolding readInto freshOf left leftIn
+read-falls (read.Read x) c = omega arith
+read-falls (read.Refused n) c = omega arith
+
 -- one event of a silent station's: if accepted tick, less is left, else no more
 event-falls : (c : Controller) (e : Event) → ended c ≡ false → quietAt (c .session .station) e ≡ true
     → cond (ticked e) 1 0 + left (after c e .session) ≤ left (c .session)
@@ -208,6 +217,7 @@ event-falls c (Came id s) o q =
     same z h = subst (λ (y : Session). 0 + left z ≤ left y) h (omega arith)
 event-falls c (Beaten r v t old) o q = tick-falls c r v t (accepts r v t old) o
 event-falls c (Wrote old) o q = omega arith
+event-falls c (Reread s) o q = read-falls (readOf s) c
 
 some-left : (c : Controller) → ended c ≡ false → 0 < left (c .session)
 unfolding ended left

@@ -13,6 +13,9 @@ use Rattle.messages.specs.declared.received.Recognized.the-variants as recogniz
 use Rattle.messages.specs.Identifier.{partsOf}
 use Rattle.messages.specs.Received.{recognizedOf, rowOf}
 use Rattle.settings.specs.declared.Settings.{Settings}
+use Rattle.settings.specs.declared.SettingsRead.{SettingsRead}
+use Rattle.settings.specs.declared.SettingsRead.the-variants as read
+use Rattle.settings.specs.Read.{readOf}
 use Rattle.readings.specs.declared.Readings.{Readings}
 use Rattle.charge_messages.specs.declared.Content.{Content}
 use Rattle.charge_messages.specs.declared.Content.the-variants as content
@@ -26,7 +29,7 @@ use Rattle.controller.specs.Frame.{mayCharge, withSession, contentTaken, charge
 use Rattle.controller.specs.Frame.{notCan, flagsSet, notForUs, badSource, refused}
 use Rattle.controller.specs.Tick.{broadcastFrames, cellFrames}
 use Rattle.demands.specs.Machine.{paperNext}
-use Rattle.demands.specs.Apart.{Event, Came, Beaten, Wrote, accepts, after, chargeIn, isCharge}
+use Rattle.demands.specs.Apart.{Event, Came, Beaten, Wrote, Reread, accepts, readInto, after, chargeIn, isCharge}
 use Rattle.demands.specs.Unmoved.{charging, others, Said, broadcastsAt, cellsAt, saidAt, said, Beside}
 use Rattle.demands.proofs.Apart.{made, choice, choices}
 
@@ -112,11 +115,17 @@ module _ (c d : Controller) (a : Beside c d) where
   unfolding paperNext
   beside-next r v t = record { settings = a .settings; beat = rw (a .beat); queries = rw (a .queries) }
 
+  beside-read : (s : SettingsRead) → Beside (readInto s c) (readInto s d)
+  unfolding readInto
+  beside-read (read.Read x) = record { settings = refl; beat = refl; queries = refl }
+  beside-read (read.Refused n) = a
+
   beside-event : (e : Event) → charging e ≡ false → Beside (after c e) (after d e)
   unfolding after charging
   beside-event (Came id s) h = same-frame id s h .beside
   beside-event (Beaten r v t old) h = beside-choice (accepts r v t old) _ _ (beside-next r v t)
   beside-event (Wrote old) h = a
+  beside-event (Reread s) h = beside-read (readOf s)
 
   same-broadcasts : (r : Readings) (v : List ℕ) (t : List ℤ) → broadcastFrames c r v t ≡ broadcastFrames d r v t
   unfolding broadcastFrames
@@ -131,6 +140,7 @@ module _ (c d : Controller) (a : Beside c d) where
   same-said (Came id s) h = rw (h, same-frame id s h .number)
   same-said (Beaten r v t old) h = rw (same-broadcasts r v t, same-cells r v t)
   same-said (Wrote old) h = refl
+  same-said (Reread s) h = refl
 
 -- a charge message is not said
 unsaid : (c : Controller) (e : Event) → charging e ≡ true → saidAt c e ≡ []
@@ -138,12 +148,14 @@ unfolding saidAt charging
 unsaid c (Came id s) h = rw h
 unsaid c (Beaten r v t old) h = absurd (false≢true h)
 unsaid c (Wrote old) h = absurd (false≢true h)
+unsaid c (Reread s) h = absurd (false≢true h)
 
 unmoved-by : (c : Controller) (e : Event) → charging e ≡ true → Beside (after c e) c
 unfolding after charging
 unmoved-by c (Came id s) h = charge-stays c id s h
 unmoved-by c (Beaten r v t old) h = absurd (false≢true h)
 unmoved-by c (Wrote old) h = absurd (false≢true h)
+unmoved-by c (Reread s) h = absurd (false≢true h)
 
 then : (c d e : Controller) → Beside c d → Beside d e → Beside c e
 then c d e a b =

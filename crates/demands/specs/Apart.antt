@@ -13,32 +13,44 @@ use Rattle.messages.specs.declared.received.Recognized.the-variants as recogniz
 use Rattle.messages.specs.Identifier.{partsOf}
 use Rattle.messages.specs.Received.{recognizedOf}
 use Rattle.readings.specs.declared.Readings.{Readings}
+use Rattle.settings.specs.declared.SettingsRead.{SettingsRead}
+use Rattle.settings.specs.declared.SettingsRead.the-variants as read
+use Rattle.settings.specs.Read.{readOf}
 use Rattle.session.specs.declared.Session.{Session}
 use Rattle.controller.specs.declared.Controller.{Controller}
 use Rattle.controller.specs.Frame.{frameTo, isIdle}
 use Rattle.controller.specs.Tick.{tickNumber, chargeFrames}
-use Rattle.demands.specs.Machine.{Call, Receive, Tick, Write, paperNext}
+use Rattle.controller.specs.Start.{freshOf}
+use Rattle.demands.specs.Machine.{Call, Read, Receive, Tick, Write, paperNext}
 
 -- What can happen to a controller in use, and the controller after it: the calls of `Machine` that need a controller (`after-is`, proofs).
--- a received frame, well formed or not; a tick, with all that it lends; settings written
+-- a received frame, well formed or not; a tick, with all that it lends; settings written; a settings record read
 pub data Event : Type 0 where
   Came : ℕ → List ℕ → Event
   Beaten : Readings → List ℕ → List ℤ → List ℕ → Event
   Wrote : List ℕ → Event
+  Reread : List ℕ → Event
 
 abbrev pub callOf : Event → Call
 callOf (Came id s) = Receive id s
 callOf (Beaten r v t old) = Tick r v t old
 callOf (Wrote old) = Write old
+callOf (Reread s) = Read s
 
 -- whether a tick is accepted is told by what it lends
 unfoldable pub accepts : Readings → List ℕ → List ℤ → List ℕ → Bool
 accepts r v t old = eqb (tickNumber r v t (length old)) 0
 
+-- a record that is accepted makes a fresh controller; one that is refused leaves the one in use
+unfoldable pub readInto : SettingsRead → Controller → Controller
+readInto (read.Read x) c = freshOf x
+readInto (read.Refused n) c = c
+
 unfoldable pub after : Controller → Event → Controller
 after c (Came id s) = frameTo c id s .controller
 after c (Beaten r v t old) = cond (accepts r v t old) (paperNext c r v t) c
 after c (Wrote old) = c
+after c (Reread s) = readInto (readOf s) c
 
 unfoldable pub afterAll : Controller → List Event → Controller
 afterAll c [] = c
@@ -69,11 +81,17 @@ isQuery id = queryIn (recognizedOf (partsOf id .pf))
 unfoldable pub fromStation : ℕ → ℕ → Bool
 fromStation st id = eqb (partsOf id .source) st && not (isQuery id)
 
--- what a session with the station `st` can hear: ticks, and the station's frames
+-- a record is accepted
+unfoldable pub isRead : SettingsRead → Bool
+isRead (read.Read x) = true
+isRead (read.Refused n) = false
+
+-- what a session with the station `st` can hear: ticks, the station's frames, and new settings, which end it
 unfoldable pub reaches : ℕ → Event → Bool
 reaches st (Came id s) = fromStation st id
 reaches st (Beaten r v t old) = true
 reaches st (Wrote old) = false
+reaches st (Reread s) = isRead (readOf s)
 
 -- the events without all else
 unfoldable pub heard : ℕ → List Event → List Event
@@ -85,6 +103,7 @@ heard st (e ∷ es) = cond (reaches st e) (e ∷ heard st es) (heard st es)
 pub data Moment : Type 0 where
   Told : ℕ → Session → Moment
   Sent : List Frame → Session → Moment
+  Anew : Moment
 
 unfoldable pub sentAt : Controller → Readings → List ℕ → List ℤ → List ℕ → List Frame
 sentAt c r v t old = cond (accepts r v t old) (chargeFrames c r v t) []
@@ -95,6 +114,7 @@ moments c (Came id s) =
     (Told (frameTo c id s .number) (frameTo c id s .controller .session) ∷ []) []
 moments c (Beaten r v t old) = Sent (sentAt c r v t old) (after c (Beaten r v t old) .session) ∷ []
 moments c (Wrote old) = []
+moments c (Reread s) = cond (isRead (readOf s)) (Anew ∷ []) []
 
 -- all that is seen of a session, up to and with what ends it
 unfoldable pub life : Controller → List Event → List Moment

@@ -1,15 +1,21 @@
--- The insurer's first question: what can end a session, and what can end a charge? The vocabulary of proofs/Ends.antt, after 01, "Session
--- by message".
+-- The insurer's first question: "which message, in which state, may end a charge?" What can end a session, and what can end a charge, after 01,
+-- "Session by message" and "Session by tick". The vocabulary of proofs/Ends.antt.
 use Prim.Native.Nat.{ℕ}
 use mathlib.Core.Path.{_≡_}
 use mathlib.Core.Bool.{Bool, true, false, not, _&&_}
 use mathlib.Core.List.{List}
 use lib.Dec.{ltb}
+use lib.IntN.{ℤ}
+use Rattle.readings.specs.declared.Readings.{Readings}
+use Rattle.settings.specs.Read.{readOf}
+use Rattle.cells.specs.Summaries.{cellsOf}
 use Rattle.charge_messages.specs.declared.ChargeMessage.{ChargeMessage}
 use Rattle.charge_messages.specs.declared.ChargeMessage.the-variants.{Cim, Cvm, Cmp, Crm, Ccs, Cst, Cem}
 use Rattle.states.specs.declared.State.{State}
 use Rattle.controller.specs.declared.Controller.{Controller}
+use Rattle.demands.specs.Apart.{Event, Came, Beaten, Reread, accepts, isRead}
 use Rattle.demands.specs.Kinds.{isStopping}
+use Rattle.demands.specs.Stops.{whyOf, endsFor, leavesFor}
 use Rattle.demands.specs.Says.{Says}
 
 -- which charge messages end an open session, by its state and count: CEM; CST AA in Stopping, once an EST has gone out since Stopping
@@ -33,14 +39,23 @@ leavesBy (Ccs b) = not b
 leavesBy (Cst b) = true
 leavesBy Cem = true
 
--- a frame ends a session: it comes from the session's station, no check refuses it, and it is a CEM; or it is a CST AA, the session is in
--- Stopping, and an EST of ours has gone out since Stopping began
-pub data EndedBy (gone : Bool) (c : Controller) (id : ℕ) (s : List ℕ) : Type 0 where
-  ByCem : Says (c .settings) (c .session .station) Cem id s → EndedBy gone c id s
-  ByCst : Says (c .settings) (c .session .station) (Cst true) id s → isStopping (c .session .state) ≡ true → gone ≡ true → EndedBy gone c id s
+-- THE ANSWER: what ends a session, by cases. A frame: it comes from the session's station, no check refuses it, and it is a CEM; or it is a CST
+-- AA, the session is in Stopping, and an EST of ours has gone out since Stopping began. A tick: it is accepted, and charge is not wanted before
+-- Charging, or Stopping or Error are at count 600. New settings, which make a fresh controller
+pub data EndsSession (gone : Bool) (c : Controller) : Event → Type 0 where
+  ByCem : {id : ℕ} {s : List ℕ} → Says (c .settings) (c .session .station) Cem id s → EndsSession gone c (Came id s)
+  ByCst : {id : ℕ} {s : List ℕ} → Says (c .settings) (c .session .station) (Cst true) id s
+      → isStopping (c .session .state) ≡ true → gone ≡ true → EndsSession gone c (Came id s)
+  ByTick : {r : Readings} {v : List ℕ} {t : List ℤ} {old : List ℕ} → accepts r v t old ≡ true
+      → endsFor (whyOf (c .settings) r (cellsOf v t) (c .session)) ≡ true → EndsSession gone c (Beaten r v t old)
+  ByReading : {s : List ℕ} → isRead (readOf s) ≡ true → EndsSession gone c (Reread s)
 
--- a frame ends a charge: it comes from the session's station, no check refuses it, and it is CCS 00, CST of either value, or CEM
-pub data StoppedBy (c : Controller) (id : ℕ) (s : List ℕ) : Type 0 where
-  AtCcs : Says (c .settings) (c .session .station) (Ccs false) id s → StoppedBy c id s
-  AtCst : (b : Bool) → Says (c .settings) (c .session .station) (Cst b) id s → StoppedBy c id s
-  AtCem : Says (c .settings) (c .session .station) Cem id s → StoppedBy c id s
+-- and what ends a charge. A frame: it comes from the session's station, no check refuses it, and it is CCS 00, CST of either value, or CEM. A tick:
+-- it is accepted, and one of the rules that leave Charging holds. New settings
+pub data EndsCharge (c : Controller) : Event → Type 0 where
+  AtCcs : {id : ℕ} {s : List ℕ} → Says (c .settings) (c .session .station) (Ccs false) id s → EndsCharge c (Came id s)
+  AtCst : {id : ℕ} {s : List ℕ} {b : Bool} → Says (c .settings) (c .session .station) (Cst b) id s → EndsCharge c (Came id s)
+  AtCem : {id : ℕ} {s : List ℕ} → Says (c .settings) (c .session .station) Cem id s → EndsCharge c (Came id s)
+  AtTick : {r : Readings} {v : List ℕ} {t : List ℤ} {old : List ℕ} → accepts r v t old ≡ true
+      → leavesFor (whyOf (c .settings) r (cellsOf v t) (c .session)) ≡ true → EndsCharge c (Beaten r v t old)
+  AtReading : {s : List ℕ} → isRead (readOf s) ≡ true → EndsCharge c (Reread s)

@@ -7,6 +7,7 @@ use mathlib.Core.Bool.{Bool, true, false, not, _&&_}
 use mathlib.Core.List.{List, [], _∷_}
 use lib.IntN.{ℤ}
 use Rattle.settings.specs.declared.Settings.{Settings}
+use Rattle.settings.specs.Read.{readOf}
 use Rattle.readings.specs.declared.Readings.{Readings}
 use Rattle.readings.specs.Readings.{wantedOf}
 use Rattle.charge_messages.specs.declared.Offer.{Offer}
@@ -17,7 +18,7 @@ use Rattle.states.specs.declared.State.the-variants.{Charging}
 use Rattle.outcomes.specs.Offer.{acceptedOf, stationMost}
 use Rattle.outcomes.specs.Message.{goneOut}
 use Rattle.session.specs.declared.Session.{Session}
-use Rattle.demands.specs.Apart.{Event, Came, Beaten, Wrote, accepts}
+use Rattle.demands.specs.Apart.{Event, Came, Beaten, Wrote, Reread, accepts, isRead}
 use Rattle.demands.specs.Says.{Says}
 
 -- the session where Charging begins, with the offer of the station's last CMP
@@ -57,11 +58,12 @@ besides k n (Cst b) = false
 besides k n Cem = false
 
 -- what may come at any time, and leaves silence alone: a frame by which the station says no charge message (another's, a cell query, or one that 3
--- to 10 refuse) or only a CIM; a refused tick; settings written
+-- to 10 refuse) or only a CIM; a refused tick; settings written; a settings record that is refused
 unfoldable pub Passing : Settings → ℕ → Event → Type 0
 Passing x st (Came id s) = (m : ChargeMessage) → Says x st m id s → m ≡ Cim
 Passing x st (Beaten r v t old) = accepts r v t old ≡ false
 Passing x st (Wrote old) = Unit {0}
+Passing x st (Reread s) = isRead (readOf s) ≡ false
 
 -- the station `st` of a controller with the settings `x`; `o` is the offer of its last CMP
 module _ (x : Settings) (st : ℕ) (o : Offer) where

@@ -4,13 +4,14 @@ use mathlib.Core.Path.{_≡_}
 use mathlib.Core.Bool.{Bool, true, false, not, cond, _&&_, _||_}
 use mathlib.Core.List.{List, [], _∷_}
 use Rattle.controller.specs.declared.Controller.{Controller}
-use Rattle.demands.specs.Apart.{Event, Came, Beaten, Wrote, accepts, after, ended, fromStation}
+use Rattle.demands.specs.Apart.{Event, Came, Beaten, Wrote, Reread, accepts, after, ended, fromStation}
 
 -- no frame of the station `st` comes, but for its cell queries
 unfoldable pub quietAt : ℕ → Event → Bool
 quietAt st (Came id s) = not (fromStation st id)
 quietAt st (Beaten r v t old) = true
 quietAt st (Wrote old) = true
+quietAt st (Reread s) = true
 
 unfoldable pub silent : ℕ → List Event → Bool
 silent st [] = true
@@ -21,6 +22,7 @@ unfoldable pub ticked : Event → Bool
 ticked (Came id s) = false
 ticked (Beaten r v t old) = accepts r v t old
 ticked (Wrote old) = false
+ticked (Reread s) = false
 
 unfoldable pub ticksIn : List Event → ℕ
 ticksIn [] = 0

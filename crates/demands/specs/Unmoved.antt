@@ -9,13 +9,14 @@ use Rattle.readings.specs.declared.Readings.{Readings}
 use Rattle.controller.specs.declared.Controller.{Controller}
 use Rattle.controller.specs.Frame.{frameTo}
 use Rattle.controller.specs.Tick.{broadcastFrames, cellFrames}
-use Rattle.demands.specs.Apart.{Event, Came, Beaten, Wrote, accepts, after, isCharge}
+use Rattle.demands.specs.Apart.{Event, Came, Beaten, Wrote, Reread, accepts, after, isCharge}
 
 -- a frame that by its PF is a charge message, well formed or not, from any address
 unfoldable pub charging : Event → Bool
 charging (Came id s) = isCharge id
 charging (Beaten r v t old) = false
 charging (Wrote old) = false
+charging (Reread s) = false
 
 -- the events without the charge messages
 unfoldable pub others : List Event → List Event
@@ -38,6 +39,7 @@ unfoldable pub saidAt : Controller → Event → List Said
 saidAt c (Came id s) = cond (isCharge id) [] (Answered (frameTo c id s .number) ∷ [])
 saidAt c (Beaten r v t old) = Broadcast (broadcastsAt c r v t old) (cellsAt c r v t old) ∷ []
 saidAt c (Wrote old) = []
+saidAt c (Reread s) = []
 
 unfoldable pub said : Controller → List Event → List Said
 said c [] = []
