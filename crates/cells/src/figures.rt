@@ -101,6 +101,23 @@ pub fn summarize(v: &[u16], t: &[i16]) -> Cells
     }
 }
 
+// For a caller that nothing will ask of the cells: what is said of empty tables.
+pub fn blank() -> Cells
+    ensures { λ r. ⌜ r ≡ cellsOf [] [] ⌝ }
+{
+    let none = Cell { value: 0, index: 0 };
+    let summary = Summary {
+        count: 0,
+        sum: 0,
+        highest: none,
+        lowest: none,
+    };
+    Cells {
+        volts: summary,
+        heat: summary,
+    }
+}
+
 // The average, rounded down.
 pub fn average(s: Summary) -> u16
     requires { ⌜ (0 < s .count) × (s .sum ≤ 65535 * s .count) ⌝ }

@@ -1,6 +1,6 @@
 // A tick (01, "Numbers returned", 14 to 16; "Session by tick"; "Broadcasts and cell answers").
 ghost use mathlib.Core.Path.{_≡_};
-ghost use mathlib.Core.Bool.{true, false, not, _&&_};
+ghost use mathlib.Core.Bool.{true, _||_};
 ghost use mathlib.Core.List.{_++_};
 ghost use Prim.Native.Nat.{_+_, _≤_};
 ghost use lib.ListN.{length};
@@ -8,14 +8,13 @@ ghost use Rattle.frames.specs.Sent.{Sent};
 ghost use Rattle.cells.specs.Tables.{tablesFit, cellsInRange};
 ghost use Rattle.cells.specs.Summaries.{cellsOf};
 ghost use Rattle.cells.specs.Bounds.{BoundedCells};
+ghost use Rattle.session.specs.Reads.{readsCells};
 ghost use Rattle.session.specs.Tick.{tickOf, sentOf};
 ghost use Rattle.broadcasts.specs.Beat.{dueAt};
 ghost use Rattle.broadcasts.specs.Sendings.{broadcastAt};
-ghost use Rattle.controller.specs.Frame.{isIdle};
 ghost use Rattle.controller.specs.Tick.{tickNumber, chargeFrames, broadcastFrames, tickNext, TickIs};
 use crate::Controller;
 use crate::Ticked;
-use crate::frame;
 use crate::sending;
 use broadcasts::Broadcasts;
 use cells::Cells;
@@ -51,16 +50,28 @@ fn tick_number(r: Readings, v: &[u16], t: &[i16], room: usize) -> u8
 }
 
 impl Controller {
-    // The session is Idle and no broadcast is due: nothing looks at the cells, so they are not walked.
-    fn quiet(self) -> bool
-        ensures { λ b. ⌜ b ≡ (isIdle (self .session .state) && not (dueAt (self .beat .tick))) ⌝ }
+    // Something looks at the cells on this tick: a broadcast is due, or the session does.
+    fn reads_cells(self) -> bool
+        ensures { λ b. ⌜ b ≡ (dueAt (self .beat .tick) || readsCells (self .session .state) (self .session .count)) ⌝ }
     {
-        let s = self.session;
-        let state = s.state;
-        let idle = frame::is_idle(state);
         let beat = self.beat;
         let due = beat.due();
-        idle & !due
+        let s = self.session;
+        let reads = s.reads_cells();
+        due | reads
+    }
+
+    // The session's tick and its frames.
+    fn charge(self, r: Readings, c: Cells, buf: &mut [u8]) -> Part
+        requires { ⌜ 117 ≤ length (now buf) ⌝ }
+        ensures next { λ p. ⌜ p .session ≡ tickOf (self .settings) r c (self .session) ⌝ }
+        ensures sent { λ p. ⌜ Sent 3 (now (buf .entry)) (now (buf .exit)) 0 (p .at) (sentOf (self .settings) r c (self .session)) ⌝ }
+    {
+        let s = self.session;
+        let k = s.tick(self.settings, r, c);
+        let next = k.session;
+        let at = sending::charge(k.frames, buf, 0);
+        Part { session: next, at }
     }
 
     // The broadcasts, where they are due.
@@ -78,35 +89,29 @@ impl Controller {
         }
     }
 
-    // The session's tick and its frames, then the broadcasts.
+    // The cells walked, the session's tick and its frames, then the broadcasts.
     fn loud(self, r: Readings, v: &[u16], t: &[i16], buf: &mut [u8]) -> Part
         requires { ⌜ (tablesFit (now v) (now t) ≡ true) × (cellsInRange (now v) (now t) ≡ true) × (117 ≤ length (now buf)) ⌝ }
         ensures next { λ p. ⌜ p .session ≡ tickOf (self .settings) r (cellsOf (now (v .entry)) (now (t .entry))) (self .session) ⌝ }
         ensures sent { λ p. ⌜ Sent 8 (now (buf .entry)) (now (buf .exit)) 0 (p .at) (chargeFrames self r (now (v .entry)) (now (t .entry)) ++ broadcastFrames self r (now (v .entry)) (now (t .entry))) ⌝ }
     {
         let c = figures::summarize(v, t);
-        let s = self.session;
-        let k = s.tick(self.settings, r, c);
-        let next = k.session;
-        let a = sending::charge(k.frames, buf, 0);
-        let b = self.broadcast(r, c, buf, a);
-        Part {
-            session: next,
-            at: b,
-        }
+        let p = self.charge(r, c, buf);
+        let next = p.session;
+        let at = self.broadcast(r, c, buf, p.at);
+        Part { session: next, at }
     }
 
-    // The same, with nothing done where nothing is to be done.
+    // The same, with the tables unwalked where nothing looks at the cells.
     fn part(self, r: Readings, v: &[u16], t: &[i16], buf: &mut [u8]) -> Part
         requires { ⌜ (tablesFit (now v) (now t) ≡ true) × (cellsInRange (now v) (now t) ≡ true) × (117 ≤ length (now buf)) ⌝ }
         ensures next { λ p. ⌜ p .session ≡ tickOf (self .settings) r (cellsOf (now (v .entry)) (now (t .entry))) (self .session) ⌝ }
         ensures sent { λ p. ⌜ Sent 8 (now (buf .entry)) (now (buf .exit)) 0 (p .at) (chargeFrames self r (now (v .entry)) (now (t .entry)) ++ broadcastFrames self r (now (v .entry)) (now (t .entry))) ⌝ }
     {
-        if self.quiet() {
-            let s = self.session;
-            Part { session: s, at: 0 }
-        } else {
+        if self.reads_cells() {
             self.loud(r, v, t, buf)
+        } else {
+            self.charge(r, figures::blank(), buf)
         }
     }
 
