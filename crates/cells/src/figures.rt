@@ -101,7 +101,7 @@ pub fn summarize(v: &[u16], t: &[i16]) -> Cells
     }
 }
 
-// For a caller that nothing will ask of the cells: what is said of empty tables.
+// What is said of no cells, for a caller whom nothing will ask of them.
 pub fn blank() -> Cells
     ensures { λ r. ⌜ r ≡ cellsOf [] [] ⌝ }
 {

@@ -1,8 +1,9 @@
--- Where no broadcast is due and the session does not look at the cells, a tick comes to the same for any cells, and it sends the station's
--- frames alone. So the tables may be left unwalked. Assumes nothing.
-use mathlib.Core.Path.{_≡_, refl, sym, _∙_}
-use mathlib.Core.Bool.{Bool, true, false, _||_, false≢true}
-use mathlib.Core.List.{_++_, append-nil}
+-- Where no broadcast is due and the session does not look at the cells, other cells in their place make no difference to the session, to its
+-- frames or to the broadcasts. So the tables may be left unwalked. Assumes nothing.
+use mathlib.Core.Path.{_≡_, refl}
+use mathlib.Core.Bool.{Bool, true, false, cond, _||_}
+use mathlib.Core.List.{List}
+use Rattle.frames.specs.declared.Frame.{Frame}
 use Rattle.readings.specs.declared.Readings.{Readings}
 use Rattle.cells.specs.declared.Cells.{Cells}
 use Rattle.session.specs.Reads.{readsCells}
@@ -12,18 +13,25 @@ use Rattle.broadcasts.specs.Beat.{dueAt}
 use Rattle.broadcasts.specs.Sendings.{broadcastAt}
 use Rattle.controller.specs.declared.Controller.{Controller}
 
-neither : (a b : Bool) → (a || b) ≡ false → (a ≡ false) × (b ≡ false)
-neither true b e = absurd (false≢true (sym e))
-neither false b e = (refl, e)
+module _ (k : Controller) (r : Readings) (c d : Cells) where
+  abbrev looks : Bool
+  looks = dueAt (k .beat .tick) || readsCells (k .session .state) (k .session .count)
 
-module _ (k : Controller) (r : Readings) (c d : Cells)
-    (quiet : (dueAt (k .beat .tick) || readsCells (k .session .state) (k .session .count)) ≡ false) where
-  both : (dueAt (k .beat .tick) ≡ false) × (readsCells (k .session .state) (k .session .count) ≡ false)
-  both = neither (dueAt (k .beat .tick)) (readsCells (k .session .state) (k .session .count)) quiet
+  either : {A : Type 0} (f : Cells → A) (a b : Bool) → (a ≡ false → b ≡ false → f d ≡ f c) → f (cond (a || b) c d) ≡ f c
+  either f true b h = refl
+  either f false true h = refl
+  either f false false h = h refl refl
 
-  pub quiet-tick : tickOf (k .settings) r c (k .session) ≡ tickOf (k .settings) r d (k .session)
-  quiet-tick = unread (k .settings) r c d (k .session) (both .1) .0
+  pub quiet-tick : tickOf (k .settings) r (cond looks c d) (k .session) ≡ tickOf (k .settings) r c (k .session)
+  quiet-tick = either (λ (z : Cells). tickOf (k .settings) r z (k .session)) (dueAt (k .beat .tick)) (readsCells (k .session .state) (k .session .count))
+      (λ p q. unread (k .settings) r d c (k .session) q .0)
 
-  pub quiet-sent : sentOf (k .settings) r c (k .session)
-      ≡ sentOf (k .settings) r d (k .session) ++ broadcastAt (k .beat .tick) (k .settings .own) (k .settings .versions) r d
-  quiet-sent = rw (both .0) (unread (k .settings) r c d (k .session) (both .1) .1 ∙ sym (append-nil (sentOf (k .settings) r d (k .session))))
+  pub quiet-sent : sentOf (k .settings) r (cond looks c d) (k .session) ≡ sentOf (k .settings) r c (k .session)
+  quiet-sent = either (λ (z : Cells). sentOf (k .settings) r z (k .session)) (dueAt (k .beat .tick)) (readsCells (k .session .state) (k .session .count))
+      (λ p q. unread (k .settings) r d c (k .session) q .1)
+
+  abbrev sendings : Cells → List Frame
+  sendings z = broadcastAt (k .beat .tick) (k .settings .own) (k .settings .versions) r z
+
+  pub quiet-broadcast : sendings (cond looks c d) ≡ sendings c
+  quiet-broadcast = either sendings (dueAt (k .beat .tick)) (readsCells (k .session .state) (k .session .count)) (λ p q. rw p)

@@ -1,7 +1,7 @@
 // A tick (01, "Numbers returned", 14 to 16; "Session by tick"; "Broadcasts and cell answers").
 ghost use mathlib.Core.Path.{_≡_};
-ghost use mathlib.Core.Bool.{true, _||_};
-ghost use mathlib.Core.List.{_++_};
+ghost use mathlib.Core.Bool.{true, cond, _||_};
+ghost use mathlib.Core.List.{[], _++_};
 ghost use Prim.Native.Nat.{_+_, _≤_};
 ghost use lib.ListN.{length};
 ghost use Rattle.frames.specs.Sent.{Sent};
@@ -61,22 +61,21 @@ impl Controller {
         due | reads
     }
 
-    // The session's tick and its frames.
-    fn charge(self, r: Readings, c: Cells, buf: &mut [u8]) -> Part
-        requires { ⌜ 117 ≤ length (now buf) ⌝ }
-        ensures next { λ p. ⌜ p .session ≡ tickOf (self .settings) r c (self .session) ⌝ }
-        ensures sent { λ p. ⌜ Sent 3 (now (buf .entry)) (now (buf .exit)) 0 (p .at) (sentOf (self .settings) r c (self .session)) ⌝ }
+    // What is said of the cells; where nothing looks at them they are not walked, and what is said of no cells stands for it.
+    fn cells(self, v: &[u16], t: &[i16]) -> Cells
+        requires { ⌜ (tablesFit (now v) (now t) ≡ true) × (cellsInRange (now v) (now t) ≡ true) ⌝ }
+        ensures { λ c. ⌜ c ≡ cond (dueAt (self .beat .tick) || readsCells (self .session .state) (self .session .count)) (cellsOf (now (v .entry)) (now (t .entry))) (cellsOf [] []) ⌝ }
     {
-        let s = self.session;
-        let k = s.tick(self.settings, r, c);
-        let next = k.session;
-        let at = sending::charge(k.frames, buf, 0);
-        Part { session: next, at }
+        if self.reads_cells() {
+            figures::summarize(v, t)
+        } else {
+            figures::blank()
+        }
     }
 
     // The broadcasts, where they are due.
     fn broadcast(self, r: Readings, c: Cells, buf: &mut [u8], at: usize) -> usize
-        requires { ⌜ (at + 65 ≤ length (now buf)) × BoundedCells c ⌝ }
+        requires { ⌜ (at + 65 ≤ length (now buf)) × (dueAt (self .beat .tick) ≡ true → BoundedCells c) ⌝ }
         ensures { λ n. ⌜ Sent 5 (now (buf .entry)) (now (buf .exit)) at n (broadcastAt (self .beat .tick) (self .settings .own) (self .settings .versions) r c) ⌝ }
     {
         let beat = self.beat;
@@ -89,29 +88,21 @@ impl Controller {
         }
     }
 
-    // The cells walked, the session's tick and its frames, then the broadcasts.
-    fn loud(self, r: Readings, v: &[u16], t: &[i16], buf: &mut [u8]) -> Part
-        requires { ⌜ (tablesFit (now v) (now t) ≡ true) × (cellsInRange (now v) (now t) ≡ true) × (117 ≤ length (now buf)) ⌝ }
-        ensures next { λ p. ⌜ p .session ≡ tickOf (self .settings) r (cellsOf (now (v .entry)) (now (t .entry))) (self .session) ⌝ }
-        ensures sent { λ p. ⌜ Sent 8 (now (buf .entry)) (now (buf .exit)) 0 (p .at) (chargeFrames self r (now (v .entry)) (now (t .entry)) ++ broadcastFrames self r (now (v .entry)) (now (t .entry))) ⌝ }
-    {
-        let c = figures::summarize(v, t);
-        let p = self.charge(r, c, buf);
-        let next = p.session;
-        let at = self.broadcast(r, c, buf, p.at);
-        Part { session: next, at }
-    }
-
-    // The same, with the tables unwalked where nothing looks at the cells.
+    // The session's tick and its frames, then the broadcasts.
     fn part(self, r: Readings, v: &[u16], t: &[i16], buf: &mut [u8]) -> Part
         requires { ⌜ (tablesFit (now v) (now t) ≡ true) × (cellsInRange (now v) (now t) ≡ true) × (117 ≤ length (now buf)) ⌝ }
         ensures next { λ p. ⌜ p .session ≡ tickOf (self .settings) r (cellsOf (now (v .entry)) (now (t .entry))) (self .session) ⌝ }
         ensures sent { λ p. ⌜ Sent 8 (now (buf .entry)) (now (buf .exit)) 0 (p .at) (chargeFrames self r (now (v .entry)) (now (t .entry)) ++ broadcastFrames self r (now (v .entry)) (now (t .entry))) ⌝ }
     {
-        if self.reads_cells() {
-            self.loud(r, v, t, buf)
-        } else {
-            self.charge(r, figures::blank(), buf)
+        let c = self.cells(v, t);
+        let s = self.session;
+        let k = s.tick(self.settings, r, c);
+        let next = k.session;
+        let a = sending::charge(k.frames, buf, 0);
+        let b = self.broadcast(r, c, buf, a);
+        Part {
+            session: next,
+            at: b,
         }
     }
 
