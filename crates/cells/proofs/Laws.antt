@@ -9,9 +9,8 @@ use lib.Dec.{leb}
 use lib.ListN.{length, getD, drop, drop-of-length-le}
 use lib.Seq.{drop-cons}
 use Rattle.cells.specs.declared.Cell.{Cell}
-use Rattle.cells.specs.declared.Summary.{Summary}
-use Rattle.cells.specs.Summaries.{sumOf, highestOf, lowestOf, cellFrom, summaryFrom}
-use Rattle.cells.specs.Walk.{higherOf, lowerOf, joinedOf}
+use Rattle.cells.specs.Summaries.{sumOf, highestOf, lowestOf, cellFrom, summaryOf}
+use Rattle.cells.specs.Walk.{higherOf, lowerOf}
 use Rattle.cells.proofs.Extremes.{index-here, index-after}
 
 abbrev cellOf : ℕ → ℕ → Cell
@@ -36,29 +35,41 @@ sum-grows : (x : ℕ) (xs : List ℕ) → sumOf xs + x ≡ sumOf (x ∷ xs)
 unfolding sumOf
 sum-grows x xs = omega arith
 
-same : {a b c d : ℕ} {p q r s : Cell} → a ≡ b → c ≡ d → p ≡ q → r ≡ s
-    → _≡_ {A = Summary} (record { count = a; sum = c; highest = p; lowest = r }) (record { count = b; sum = d; highest = q; lowest = s })
-same e f g h = cc
-
--- the summary of a table that holds a cell, with one cell more in front
-pub joined-grows : (x k y : ℕ) (ys : List ℕ) → joinedOf x k (summaryFrom (suc k) (y ∷ ys)) ≡ summaryFrom k (x ∷ y ∷ ys)
-unfolding joinedOf
-joined-grows x k y ys =
-    same (omega arith) (sum-grows x (y ∷ ys)) (higher-grows x k (y ∷ ys)) (lower-grows x k y ys)
+-- the walk has come to j: the sum, the highest and the lowest of the cells from j on
+pub record Walked (xs : List ℕ) (j sum : ℕ) (highest lowest : Cell) : Type 0 where
+  pub sum-is : sum ≡ sumOf (drop j xs)
+  pub highest-is : highest ≡ cellFrom (suc j) (highestOf (drop j xs)) (drop j xs)
+  pub lowest-is : lowest ≡ cellFrom (suc j) (lowestOf (drop j xs)) (drop j xs)
 
 module _ (xs : List ℕ) (j i : ℕ) (p : i ≡ suc j) where
-  -- the walk begins with the last cell
-  pub walk-begins : i ≡ length xs → summaryFrom i (getD xs j 0 ∷ []) ≡ summaryFrom (suc j) (drop j xs)
+  -- it begins with the last cell
+  pub walk-begins : i ≡ length xs → Walked xs j (getD xs j 0) (cellOf (getD xs j 0) i) (cellOf (getD xs j 0) i)
+  unfolding sumOf highestOf lowestOf
   walk-begins h =
-      rw (drop-cons xs j 0 (omega arith), drop-of-length-le xs {i = suc j} (omega arith), p)
+      let x = getD xs j 0 in
+      let e : drop j xs ≡ x ∷ [] = rw (drop-cons xs j 0 (omega arith), drop-of-length-le xs {i = suc j} (omega arith)) in
+      record {
+        sum-is = rw e (omega arith);
+        highest-is = rw (e, p, le-leb 0 x (omega arith)) (rw (index-here (suc j) x []));
+        lowest-is = rw (e, p) (rw (index-here (suc j) x []));
+      }
 
   -- and goes from the cells after j to those from j on
-  pub walk-again : (s : Summary) → i < length xs → s ≡ summaryFrom (suc i) (drop i xs) → joinedOf (getD xs j 0) i s ≡ summaryFrom (suc j) (drop j xs)
-  walk-again s h e =
-      rw (e, p, drop-cons xs j 0 (omega arith), drop-cons xs (suc j) 0 (omega arith))
-      (joined-grows (getD xs j 0) (suc j) (getD xs (suc j) 0) (drop (suc (suc j)) xs))
+  pub walk-again : (sum : ℕ) (highest lowest : Cell) → i < length xs → Walked xs i sum highest lowest
+      → Walked xs j (sum + getD xs j 0) (higherOf (cellOf (getD xs j 0) i) highest) (lowerOf (cellOf (getD xs j 0) i) lowest)
+  walk-again sum highest lowest h w =
+      let x = getD xs j 0 in
+      let y = getD xs (suc j) 0 in
+      let ys = drop (suc (suc j)) xs in
+      let e : drop j xs ≡ x ∷ drop i xs = rw (p, drop-cons xs j 0 (omega arith)) in
+      let f : drop i xs ≡ y ∷ ys = rw (p, drop-cons xs (suc j) 0 (omega arith)) in
+      record {
+        sum-is = rw (w .sum-is, e) (sum-grows x (drop i xs));
+        highest-is = rw (w .highest-is, e, p) (higher-grows x (suc j) (drop (suc j) xs));
+        lowest-is = rw (w .lowest-is, e, f, p) (lower-grows x (suc j) y ys);
+      }
 
--- the summary of one cell
-pub single-is : (x k : ℕ) → record { count = 1; sum = x; highest = cellOf x k; lowest = cellOf x k } ≡ summaryFrom k (x ∷ [])
-unfolding sumOf highestOf lowestOf
-single-is x k = same refl (omega arith) (rw (le-leb 0 x (omega arith)) (rw (index-here k x []))) (rw (index-here k x []))
+-- where it has come to the first cell, all is said
+pub walk-ends : (xs : List ℕ) (count sum : ℕ) (highest lowest : Cell) → count ≡ length xs → Walked xs 0 sum highest lowest
+    → record { count = count; sum = sum; highest = highest; lowest = lowest } ≡ summaryOf xs
+walk-ends xs count sum highest lowest e w = rw (e, w .sum-is, w .highest-is, w .lowest-is)

@@ -35,19 +35,15 @@ indexFrom k value (x ∷ xs) = cond (eqb x value) k (indexFrom (suc k) value xs)
 abbrev pub cellFrom : ℕ → ℕ → List ℕ → Cell
 cellFrom k value xs = record { value = value; index = indexFrom k value xs }
 
--- the summary of a table whose first cell has the index k
-abbrev pub summaryFrom : ℕ → List ℕ → Summary
-summaryFrom k xs =
+-- indexes are "from 1"
+abbrev pub summaryOf : List ℕ → Summary
+summaryOf xs =
     record {
       count = length xs;
       sum = sumOf xs;
-      highest = cellFrom k (highestOf xs) xs;
-      lowest = cellFrom k (lowestOf xs) xs;
+      highest = cellFrom 1 (highestOf xs) xs;
+      lowest = cellFrom 1 (lowestOf xs) xs;
     }
-
--- indexes are "from 1"
-abbrev pub summaryOf : List ℕ → Summary
-summaryOf xs = summaryFrom 1 xs
 
 -- voltages as they are, temperatures as they are sent
 abbrev pub cellsOf : List ℕ → List ℤ → Cells

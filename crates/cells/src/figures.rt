@@ -2,12 +2,12 @@
 // goes to the lowest index (01, "Broadcasts and cell answers").
 ghost use mathlib.Core.Path.{_≡_};
 ghost use mathlib.Core.Bool.{true};
-ghost use mathlib.Core.List.{[], _∷_};
-ghost use Prim.Native.Nat.{_+_, _*_, _≤_, _<_, _^_};
+ghost use mathlib.Core.List.{[]};
+ghost use Prim.Native.Nat.{_*_, _≤_, _<_};
 ghost use lib.ListN.{length};
 ghost use Rattle.cells.specs.Tables.{mostCells, tablesFit, every, temperatureOk, cellsInRange, temperatureBytes};
-ghost use Rattle.cells.specs.Summaries.{summaryFrom, summaryOf, cellsOf, averageOf};
-ghost use Rattle.cells.specs.Walk.{higherOf, lowerOf, joinedOf};
+ghost use Rattle.cells.specs.Summaries.{summaryOf, cellsOf, averageOf};
+ghost use Rattle.cells.specs.Walk.{higherOf, lowerOf};
 use crate::Cell;
 use crate::Cells;
 use crate::Summary;
@@ -35,59 +35,67 @@ fn lower(here: Cell, after: Cell) -> Cell
     }
 }
 
-// The summary of one cell.
-fn single(x: u16, index: u16) -> Summary
-    ensures { λ r. ⌜ r ≡ summaryFrom index (x ∷ []) ⌝ }
-{
-    let here = Cell { value: x, index };
-    Summary {
-        count: 1,
-        sum: x as u32,
-        highest: here,
-        lowest: here,
-    }
-}
-
-// The summary of a cell and those after it.
-fn joined(x: u16, index: u16, after: Summary) -> Summary
-    requires { ⌜ (after .count + 1 < 2 ^ 16) × (after .sum + x < 2 ^ 32) ⌝ }
-    ensures { λ r. ⌜ r ≡ joinedOf x index after ⌝ }
-{
-    let here = Cell { value: x, index };
-    Summary {
-        count: after.count + 1,
-        sum: after.sum + x as u32,
-        highest: higher(here, after.highest),
-        lowest: lower(here, after.lowest),
-    }
-}
-
+// The sum, the highest and the lowest of the cells walked so far are kept apart: as one value they would be packed and unpacked at each cell.
 fn voltages(v: &[u16]) -> Summary
     requires { ⌜ (1 ≤ length (now v)) × (length (now v) ≤ mostCells) ⌝ }
     ensures { λ r. ⌜ r ≡ summaryOf (now (v .entry)) ⌝ }
 {
+    let count = v.len() as u16;
     let mut i = v.len() - 1;
-    let mut s = single(v[i], v.len() as u16);
+    let x = v[i];
+    let last = Cell {
+        value: x,
+        index: count,
+    };
+    let mut sum = x as u32;
+    let mut highest = last;
+    let mut lowest = last;
     while 0 < i {
         let index = i as u16;
         i -= 1;
-        s = joined(v[i], index, s);
+        let y = v[i];
+        let here = Cell { value: y, index };
+        sum += y as u32;
+        highest = higher(here, highest);
+        lowest = lower(here, lowest);
     }
-    s
+    Summary {
+        count,
+        sum,
+        highest,
+        lowest,
+    }
 }
 
 fn temperatures(t: &[i16]) -> Summary
     requires { ⌜ (1 ≤ length (now t)) × (length (now t) ≤ mostCells) × (every temperatureOk (now t) ≡ true) ⌝ }
     ensures { λ r. ⌜ r ≡ summaryOf (temperatureBytes (now (t .entry))) ⌝ }
 {
+    let count = t.len() as u16;
     let mut i = t.len() - 1;
-    let mut s = single(tables::temperature_at(t, i) as u16, t.len() as u16);
+    let x = tables::temperature_within(t, i) as u16;
+    let last = Cell {
+        value: x,
+        index: count,
+    };
+    let mut sum = x as u32;
+    let mut highest = last;
+    let mut lowest = last;
     while 0 < i {
         let index = i as u16;
         i -= 1;
-        s = joined(tables::temperature_at(t, i) as u16, index, s);
+        let y = tables::temperature_within(t, i) as u16;
+        let here = Cell { value: y, index };
+        sum += y as u32;
+        highest = higher(here, highest);
+        lowest = lower(here, lowest);
     }
-    s
+    Summary {
+        count,
+        sum,
+        highest,
+        lowest,
+    }
 }
 
 // Both tables, of which neither 14 nor 15 was said.
@@ -98,6 +106,23 @@ pub fn summarize(v: &[u16], t: &[i16]) -> Cells
     Cells {
         volts: voltages(v),
         heat: temperatures(t),
+    }
+}
+
+// What is said of no cells, for a caller whom nothing will ask of them.
+pub fn blank() -> Cells
+    ensures { λ r. ⌜ r ≡ cellsOf [] [] ⌝ }
+{
+    let none = Cell { value: 0, index: 0 };
+    let summary = Summary {
+        count: 0,
+        sum: 0,
+        highest: none,
+        lowest: none,
+    };
+    Cells {
+        volts: summary,
+        heat: summary,
     }
 }
 

@@ -2,7 +2,8 @@
 // sent of a temperature.
 ghost use mathlib.Core.Path.{_≡_};
 ghost use mathlib.Core.Bool.{true};
-ghost use lib.ListN.{getD};
+ghost use Prim.Native.Nat.{_<_};
+ghost use lib.ListN.{length, getD};
 ghost use Rattle.cells.specs.Tables.{tablesFit, every, voltageOk, temperatureOk, cellsInRange, temperatureByte, temperatureBytes};
 
 // The most cells that a table may hold.
@@ -62,12 +63,24 @@ fn byte_of(t: i16) -> u8
     (t + 50) as u8
 }
 
-// The byte that is sent of the temperature at a place, and 0 past the end.
+// The byte that is sent of the temperature at a place within the table.
+pub fn temperature_within(t: &[i16], i: usize) -> u8
+    requires { ⌜ (i < length (now t)) × (every temperatureOk (now t) ≡ true) ⌝ }
+    ensures { λ r. ⌜ r ≡ getD (temperatureBytes (now (t .entry))) i 0 ⌝ }
+{
+    byte_of(t[i])
+}
+
+// The same, and 0 past the end.
 pub fn temperature_at(t: &[i16], i: usize) -> u8
     requires { ⌜ every temperatureOk (now t) ≡ true ⌝ }
     ensures { λ r. ⌜ r ≡ getD (temperatureBytes (now (t .entry))) i 0 ⌝ }
 {
-    if i < t.len() { byte_of(t[i]) } else { 0 }
+    if i < t.len() {
+        temperature_within(t, i)
+    } else {
+        0
+    }
 }
 
 // The voltage at a place, and 0 past the end.

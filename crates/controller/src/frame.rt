@@ -15,7 +15,7 @@ use session::Taken;
 use settings::Stations;
 use states::State;
 
-pub fn is_idle(state: State) -> bool
+fn is_idle(state: State) -> bool
     ensures { λ r. ⌜ r ≡ isIdle state ⌝ }
 {
     match state {

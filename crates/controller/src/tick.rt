@@ -1,21 +1,20 @@
 // A tick (01, "Numbers returned", 14 to 16; "Session by tick"; "Broadcasts and cell answers").
 ghost use mathlib.Core.Path.{_≡_};
-ghost use mathlib.Core.Bool.{true, false, not, _&&_};
-ghost use mathlib.Core.List.{_++_};
+ghost use mathlib.Core.Bool.{true, cond, _||_};
+ghost use mathlib.Core.List.{[], _++_};
 ghost use Prim.Native.Nat.{_+_, _≤_};
 ghost use lib.ListN.{length};
 ghost use Rattle.frames.specs.Sent.{Sent};
 ghost use Rattle.cells.specs.Tables.{tablesFit, cellsInRange};
 ghost use Rattle.cells.specs.Summaries.{cellsOf};
 ghost use Rattle.cells.specs.Bounds.{BoundedCells};
+ghost use Rattle.session.specs.Reads.{readsCells};
 ghost use Rattle.session.specs.Tick.{tickOf, sentOf};
 ghost use Rattle.broadcasts.specs.Beat.{dueAt};
 ghost use Rattle.broadcasts.specs.Sendings.{broadcastAt};
-ghost use Rattle.controller.specs.Frame.{isIdle};
 ghost use Rattle.controller.specs.Tick.{tickNumber, chargeFrames, broadcastFrames, tickNext, TickIs};
 use crate::Controller;
 use crate::Ticked;
-use crate::frame;
 use crate::sending;
 use broadcasts::Broadcasts;
 use cells::Cells;
@@ -51,21 +50,32 @@ fn tick_number(r: Readings, v: &[u16], t: &[i16], room: usize) -> u8
 }
 
 impl Controller {
-    // The session is Idle and no broadcast is due: nothing looks at the cells, so they are not walked.
-    fn quiet(self) -> bool
-        ensures { λ b. ⌜ b ≡ (isIdle (self .session .state) && not (dueAt (self .beat .tick))) ⌝ }
+    // Something looks at the cells on this tick: a broadcast is due, or the session does.
+    fn reads_cells(self) -> bool
+        ensures { λ b. ⌜ b ≡ (dueAt (self .beat .tick) || readsCells (self .session .state) (self .session .count)) ⌝ }
     {
-        let s = self.session;
-        let state = s.state;
-        let idle = frame::is_idle(state);
         let beat = self.beat;
         let due = beat.due();
-        idle & !due
+        let s = self.session;
+        let reads = s.reads_cells();
+        due | reads
+    }
+
+    // What is said of the cells; where nothing looks at them they are not walked, and what is said of no cells stands for it.
+    fn cells(self, v: &[u16], t: &[i16]) -> Cells
+        requires { ⌜ (tablesFit (now v) (now t) ≡ true) × (cellsInRange (now v) (now t) ≡ true) ⌝ }
+        ensures { λ c. ⌜ c ≡ cond (dueAt (self .beat .tick) || readsCells (self .session .state) (self .session .count)) (cellsOf (now (v .entry)) (now (t .entry))) (cellsOf [] []) ⌝ }
+    {
+        if self.reads_cells() {
+            figures::summarize(v, t)
+        } else {
+            figures::blank()
+        }
     }
 
     // The broadcasts, where they are due.
     fn broadcast(self, r: Readings, c: Cells, buf: &mut [u8], at: usize) -> usize
-        requires { ⌜ (at + 65 ≤ length (now buf)) × BoundedCells c ⌝ }
+        requires { ⌜ (at + 65 ≤ length (now buf)) × (dueAt (self .beat .tick) ≡ true → BoundedCells c) ⌝ }
         ensures { λ n. ⌜ Sent 5 (now (buf .entry)) (now (buf .exit)) at n (broadcastAt (self .beat .tick) (self .settings .own) (self .settings .versions) r c) ⌝ }
     {
         let beat = self.beat;
@@ -79,12 +89,12 @@ impl Controller {
     }
 
     // The session's tick and its frames, then the broadcasts.
-    fn loud(self, r: Readings, v: &[u16], t: &[i16], buf: &mut [u8]) -> Part
+    fn part(self, r: Readings, v: &[u16], t: &[i16], buf: &mut [u8]) -> Part
         requires { ⌜ (tablesFit (now v) (now t) ≡ true) × (cellsInRange (now v) (now t) ≡ true) × (117 ≤ length (now buf)) ⌝ }
         ensures next { λ p. ⌜ p .session ≡ tickOf (self .settings) r (cellsOf (now (v .entry)) (now (t .entry))) (self .session) ⌝ }
         ensures sent { λ p. ⌜ Sent 8 (now (buf .entry)) (now (buf .exit)) 0 (p .at) (chargeFrames self r (now (v .entry)) (now (t .entry)) ++ broadcastFrames self r (now (v .entry)) (now (t .entry))) ⌝ }
     {
-        let c = figures::summarize(v, t);
+        let c = self.cells(v, t);
         let s = self.session;
         let k = s.tick(self.settings, r, c);
         let next = k.session;
@@ -93,20 +103,6 @@ impl Controller {
         Part {
             session: next,
             at: b,
-        }
-    }
-
-    // The same, with nothing done where nothing is to be done.
-    fn part(self, r: Readings, v: &[u16], t: &[i16], buf: &mut [u8]) -> Part
-        requires { ⌜ (tablesFit (now v) (now t) ≡ true) × (cellsInRange (now v) (now t) ≡ true) × (117 ≤ length (now buf)) ⌝ }
-        ensures next { λ p. ⌜ p .session ≡ tickOf (self .settings) r (cellsOf (now (v .entry)) (now (t .entry))) (self .session) ⌝ }
-        ensures sent { λ p. ⌜ Sent 8 (now (buf .entry)) (now (buf .exit)) 0 (p .at) (chargeFrames self r (now (v .entry)) (now (t .entry)) ++ broadcastFrames self r (now (v .entry)) (now (t .entry))) ⌝ }
-    {
-        if self.quiet() {
-            let s = self.session;
-            Part { session: s, at: 0 }
-        } else {
-            self.loud(r, v, t, buf)
         }
     }
 

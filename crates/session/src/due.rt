@@ -67,7 +67,7 @@ fn three(a: Frame, b: Frame, c: Frame) -> ChargeFrames
     }
 }
 
-fn is_fifth(count: u16) -> bool
+pub fn is_fifth(count: u16) -> bool
     ensures { λ r. ⌜ r ≡ isFifth count ⌝ }
 {
     count % 5 == 0

@@ -15,6 +15,7 @@ use states::State;
 pub mod counts;
 pub mod due;
 pub mod outcome;
+pub mod reads;
 
 // The state with its count, the silence count, and the station that the session is with. In Idle the three numbers are 0.
 pub struct Session {

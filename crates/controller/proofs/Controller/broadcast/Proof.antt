@@ -14,7 +14,7 @@ heartbeat-requires : tie.Need-heartbeat-requires
 heartbeat-requires c κs = search needs
 
 new-requires : tie.Need-new-requires
-new-requires c κs = search needs
+new-requires c κs = c .before .before .before .before .before .before .pre .1 (sym (c .before .before .before .due .ensures) ∙ c .before .before .if1 .taken)
 
 broadcast-requires : tie.Need-broadcast-requires
 broadcast-requires c κs = search needs

@@ -1,42 +1,39 @@
--- `controller::Controller::part` meets its contract: where all is quiet the cells make no difference. Assumes nothing.
-use mathlib.Core.Path.{sym, _∙_}
-use native.Mathlib.Omega.{arith}
-use denote.Ref.{now}
-use Rattle.frames.proofs.Laws.{sent-eq, sent-none, sent-most}
-use Rattle.cells.specs.Summaries.{cellsOf}
+-- `controller::Controller::part` meets its contract: the charge frames, then the broadcasts, the cells unwalked where they make no difference.
+-- Assumes nothing.
+use Rattle.frames.proofs.Laws.{sent-then, sent-eq}
+use Rattle.cells.proofs.Bounds.{cells-bounded}
 use Rattle.controller.specs.Tick.{chargeFrames, broadcastFrames}
 use Rattle.controller.proofs.Quiet.{quiet-tick, quiet-sent, quiet-broadcast}
 use borrow.Author.Needs.{needs}
 use Rattle.controller.proofs.Controller.part.Statement.{statement}
 use Rattle.controller.proofs.Controller.part.Tie as tie
 
-quiet-requires : tie.Need-quiet-requires
-quiet-requires c κs = search needs
+cells-requires : tie.Need-cells-requires
+cells-requires c κs = search needs
 
-loud-requires : tie.Need-loud-requires
-loud-requires c κs = search needs
+tick-requires : tie.Need-tick-requires
+tick-requires c κs = search needs
 
-returns : tie.Need-returns
-unfolding chargeFrames broadcastFrames
-returns c = let a = c .before .before .before .before .before .args in
-    let x = a .self .settings in
-    let k = cellsOf (now (a .v)) (now (a .t)) in
-    let q = sym (c .before .before .quiet .ensures) ∙ c .before .if1 .taken in (
-      quiet-tick x (a .r) k (a .self .session) (a .self .beat .tick) q,
-      sent-most
-          (sent-eq (sent-none (now (a .buf)) 0 (omega arith))
-          (rw (
-            ← quiet-sent x (a .r) k (a .self .session) (a .self .beat .tick) q,
-            ← quiet-broadcast x (a .r) k (a .self .session) (a .self .beat .tick) q (x .own) (x .versions),
-          )))
-          8 (omega arith),
-    )
+charge-requires : tie.Need-charge-requires
+charge-requires c κs = search needs
+
+broadcast-requires : tie.Need-broadcast-requires
+broadcast-requires c κs = (search needs, λ due. rw (c .before .before .before .before .before .before .before .before .cells .ensures, due) (cells-bounded _ _ (c .before .before .before .before .before .before .before .before .before .before .before .pre .0) (c .before .before .before .before .before .before .before .before .before .before .before .pre .1)))
 
 same-length : tie.Need-same-length
 same-length c = search needs
 
-returns-2 : tie.Need-returns-2
-returns-2 c = c .before .before .loud .ensures
+returns : tie.Need-returns
+unfolding chargeFrames broadcastFrames
+returns c = let a = c .before .before .before .before .before .before .before .before .before .before .before .before .before .before .args in
+    let e = c .before .before .before .before .before .before .before .before .before .before .before .cells .ensures in
+    let k = c .before .before .before .before .before .before .before .before .before .tick .ensures in (
+      rw (k .0, e) (quiet-tick (a .self) (a .r) _ _),
+      sent-eq (sent-then (c .before .before .before .before .before .before .charge .ensures) (c .before .before .broadcast .ensures))
+          (rw (k .1, e, quiet-sent (a .self) (a .r) _ _, quiet-broadcast (a .self) (a .r) _ _)),
+    )
 
 pub part-spec : {M : Type 1} → statement M
-part-spec = tie.close (tie.spec quiet-requires loud-requires returns same-length returns-2)
+part-spec =
+    tie.close
+    (tie.spec cells-requires tick-requires charge-requires broadcast-requires same-length returns)

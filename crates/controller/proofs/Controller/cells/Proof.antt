@@ -1,0 +1,24 @@
+-- `controller::Controller::cells` meets its contract. Assumes nothing.
+use mathlib.Core.Path.{sym, _∙_}
+use borrow.Author.Needs.{needs}
+use Rattle.controller.proofs.Controller.cells.Statement.{statement}
+use Rattle.controller.proofs.Controller.cells.Tie as tie
+
+reads-cells-requires : tie.Need-reads-cells-requires
+reads-cells-requires c κs = search needs
+
+summarize-requires : tie.Need-summarize-requires
+summarize-requires c κs = search needs
+
+blank-requires : tie.Need-blank-requires
+blank-requires c κs = search needs
+
+returns : tie.Need-returns
+returns c = rw (sym (c .before .before .reads-cells .ensures) ∙ c .before .if1 .taken) (c .summarize .ensures)
+
+returns-2 : tie.Need-returns-2
+returns-2 c = rw (sym (c .before .before .reads-cells .ensures) ∙ c .before .if1 .left) (c .blank .ensures)
+
+pub cells-spec : {M : Type 1} → statement M
+cells-spec =
+    tie.close (tie.spec reads-cells-requires summarize-requires blank-requires returns returns-2)
