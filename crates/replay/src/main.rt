@@ -9,23 +9,18 @@
 //   (SECONDS.MICROS) IFACE ID#DATA  the same from a candump log, after the ticks that are due by then
 //   write N                         the settings in use, into a buffer of N bytes
 // A blank line or one that begins with `#` is ignored. A line that is none of these is answered `unreadable line N`.
-mod calls;
-mod clock;
-mod forms;
-mod lines;
-mod print;
-mod script;
-mod tables;
-mod words;
+// This crate only joins: it may not know how a line is written, how a call is printed, or any rule of the paper.
+mod run;
 
 use calls::Buffer;
 use libc::STDIN_FILENO;
-use lines::Line;
-use lines::Text;
-use print::Out;
-use script::Run;
-use tables::Temperatures;
-use tables::Voltages;
+use printing::Out;
+use run::Run;
+use scripts::tables::Temperatures;
+use scripts::tables::Voltages;
+use words::Text;
+use words::lines::Line;
+use words::numbers::Bytes;
 
 // A run and the line that it is in, and whether there may be more input.
 struct Place {
@@ -39,6 +34,7 @@ fn ended(
     r: Run,
     l: Line,
     kept: &Text,
+    bytes: &mut Bytes,
     v: &mut Voltages,
     t: &mut Temperatures,
     buf: &mut Buffer,
@@ -52,7 +48,8 @@ fn ended(
     if l.long {
         return s.unreadable(o);
     }
-    s.line(kept, l.used, v, t, buf, o)
+    let c = scripts::read(kept, l.used, bytes, v, t);
+    s.carry_out(c, bytes, v, t, buf, o)
 }
 
 // One read of the input.
@@ -60,6 +57,7 @@ fn chunk(
     p: Place,
     input: &mut [u8; 65536],
     kept: &mut Text,
+    bytes: &mut Bytes,
     v: &mut Voltages,
     t: &mut Temperatures,
     buf: &mut Buffer,
@@ -73,7 +71,7 @@ fn chunk(
     while i < n {
         let b = input[i];
         if b == b'\n' {
-            r = ended(r, l, kept, v, t, buf, o);
+            r = ended(r, l, kept, bytes, v, t, buf, o);
             l = Line::start();
         } else {
             l = l.with(kept, b);
@@ -90,6 +88,7 @@ fn chunk(
 fn main() {
     let mut input = [0u8; 65536];
     let mut kept = [0u8; 4096];
+    let mut bytes = [0u8; 2048];
     let mut v = [0u16; 512];
     let mut t = [0i16; 512];
     let mut buf = [0u8; 4096];
@@ -106,9 +105,27 @@ fn main() {
         if !p.more {
             break;
         }
-        p = chunk(p, &mut input, &mut kept, &mut v, &mut t, &mut buf, &mut o);
+        p = chunk(
+            p,
+            &mut input,
+            &mut kept,
+            &mut bytes,
+            &mut v,
+            &mut t,
+            &mut buf,
+            &mut o,
+        );
         turns -= 1;
     }
-    let r = ended(p.run, p.line, &kept, &mut v, &mut t, &mut buf, &mut o);
-    print::finish(&o, r.out);
+    let r = ended(
+        p.run,
+        p.line,
+        &kept,
+        &mut bytes,
+        &mut v,
+        &mut t,
+        &mut buf,
+        &mut o,
+    );
+    printing::finish(&o, r.out);
 }

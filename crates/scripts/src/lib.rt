@@ -1,0 +1,148 @@
+// One line of a script, read as the call or the setting that it is: its kind by its first word, the numbers, tables and bytes in it, and
+// which ticks a candump log's time makes due. This crate may not know any controller, nor what a call comes to.
+use clock::Time;
+use forms::Kind;
+use forms::Received;
+use readings::Readings;
+use tables::Table;
+use tables::Temperatures;
+use tables::Voltages;
+use words::Text;
+use words::Word;
+use words::numbers::Bytes;
+use words::numbers::Hex;
+
+pub mod clock;
+pub mod forms;
+pub mod tables;
+
+// What a line asks for. The bytes of a record and of a frame, and the tables, stand in what the reader was lent.
+pub enum Call {
+    Settings(usize),
+    Readings(Readings),
+    Voltages(usize),
+    Temperatures(usize),
+    Buffer(usize),
+    Ticks(u64),
+    Frame(u32, usize),
+    // A frame of a log: its time in microseconds before it.
+    Log(u64, u32, usize),
+    Write(usize),
+    Unreadable,
+}
+
+// The longest buffer that a line may ask for.
+const MOST: u64 = 4096;
+
+fn settings(line: &Text, used: usize, at: usize, bytes: &mut Bytes) -> Call {
+    let w = words::next_word(line, used, at);
+    match forms::record(line, used, w, bytes) {
+        Hex::Bytes(n) => Call::Settings(n),
+        Hex::Not => Call::Unreadable,
+    }
+}
+
+fn readings(line: &Text, used: usize, at: usize) -> Call {
+    let k = tables::read_readings(line, used, at);
+    if k.good {
+        let x = k.readings;
+        Call::Readings(x)
+    } else {
+        Call::Unreadable
+    }
+}
+
+fn voltages(line: &Text, used: usize, at: usize, v: &mut Voltages) -> Call {
+    match tables::count_numbers(line, used, at, false) {
+        Table::Of(n) => {
+            tables::keep_voltages(line, used, at, n, v);
+            Call::Voltages(n)
+        }
+        Table::Not => Call::Unreadable,
+    }
+}
+
+fn temperatures(line: &Text, used: usize, at: usize, t: &mut Temperatures) -> Call {
+    match tables::count_numbers(line, used, at, true) {
+        Table::Of(n) => {
+            tables::keep_temperatures(line, used, at, n, t);
+            Call::Temperatures(n)
+        }
+        Table::Not => Call::Unreadable,
+    }
+}
+
+// The length of a buffer.
+fn place(x: u64) -> usize {
+    if x <= MOST { x as usize } else { 0 }
+}
+
+fn buffer(line: &Text, used: usize, at: usize) -> Call {
+    let f = tables::only(line, used, at, MOST);
+    if f.good {
+        Call::Buffer(place(f.value))
+    } else {
+        Call::Unreadable
+    }
+}
+
+fn write(line: &Text, used: usize, at: usize) -> Call {
+    let f = tables::only(line, used, at, MOST);
+    if f.good {
+        Call::Write(place(f.value))
+    } else {
+        Call::Unreadable
+    }
+}
+
+fn tick(line: &Text, used: usize, at: usize) -> Call {
+    let f = tables::one_or(line, used, at, 10_000_000);
+    if f.good {
+        Call::Ticks(f.value)
+    } else {
+        Call::Unreadable
+    }
+}
+
+fn frame(line: &Text, used: usize, w: Word, bytes: &mut Bytes) -> Call {
+    match forms::read_frame(line, used, w, bytes) {
+        Received::Frame(id, n) => Call::Frame(id, n),
+        Received::Not => Call::Unreadable,
+    }
+}
+
+// (SECONDS.MICROS) IFACE ID#DATA.
+fn log(line: &Text, used: usize, w: Word, bytes: &mut Bytes) -> Call {
+    let face = words::next_word(line, used, w.to);
+    let last = words::next_word(line, used, face.to);
+    let Received::Frame(id, n) = forms::read_frame(line, used, last, bytes) else {
+        return Call::Unreadable;
+    };
+    match clock::read_time(line, used, w) {
+        Time::At(now) => Call::Log(now, id, n),
+        Time::Not => Call::Unreadable,
+    }
+}
+
+// The line, by its first word.
+pub fn read(
+    line: &Text,
+    used: usize,
+    bytes: &mut Bytes,
+    v: &mut Voltages,
+    t: &mut Temperatures,
+) -> Call {
+    let w = words::next_word(line, used, 0);
+    let at = w.to;
+    match forms::kind_of(line, used, w) {
+        Kind::Settings => settings(line, used, at, bytes),
+        Kind::Readings => readings(line, used, at),
+        Kind::Voltages => voltages(line, used, at, v),
+        Kind::Temperatures => temperatures(line, used, at, t),
+        Kind::Buffer => buffer(line, used, at),
+        Kind::Tick => tick(line, used, at),
+        Kind::Frame => frame(line, used, w, bytes),
+        Kind::Log => log(line, used, w, bytes),
+        Kind::Write => write(line, used, at),
+    }
+}
