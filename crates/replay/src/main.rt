@@ -12,12 +12,12 @@
 // This crate only joins: it may not know how a line is written, how a call is printed, or any rule of the paper.
 mod run;
 
-use calls::Buffer;
 use libc::STDIN_FILENO;
 use printing::Out;
 use run::Run;
-use scripts::tables::Temperatures;
-use scripts::tables::Voltages;
+use scripts::lent::Buffer;
+use scripts::lent::Temperatures;
+use scripts::lent::Voltages;
 use words::Text;
 use words::lines::Line;
 use words::numbers::Bytes;
@@ -48,7 +48,7 @@ fn ended(
     if l.long {
         return s.unreadable(o);
     }
-    let c = scripts::read(kept, l.used, bytes, v, t);
+    let c = scripts::read(kept, l.used, s.lent, bytes, v, t);
     s.carry_out(c, bytes, v, t, buf, o)
 }
 
@@ -127,5 +127,5 @@ fn main() {
         &mut buf,
         &mut o,
     );
-    printing::finish(&o, r.out);
+    printing::finish(&o, r.holder.out);
 }

@@ -1,222 +1,50 @@
-// A run: what is kept from line to line, and each line's call carried out.
-use calls::Buffer;
-use calls::Lent;
-use calls::Standing;
-use calls::Unit;
-use controller::Controller;
-use controller::Start;
+// A run: what is kept from line to line, and what a line asks for, carried out.
+use calls::holder::Holder;
 use printing::Out;
-use readings::Marks;
-use readings::Readings;
 use scripts::Call;
 use scripts::clock::Clock;
 use scripts::clock::Due;
-use scripts::tables::Temperatures;
-use scripts::tables::Voltages;
-use units::TenthVolts;
+use scripts::lent::Buffer;
+use scripts::lent::Lent;
+use scripts::lent::Temperatures;
+use scripts::lent::Voltages;
 use words::numbers::Bytes;
 
-// The controller in use, or none.
-pub enum Held {
-    Made(Controller),
-    Nothing,
-}
-
-// All that a run keeps from line to line, but for the tables and the buffers: the controller, the ticks that it has accepted, what
-// ticks are lent, the clock, the line's number and the free place of the output.
+// All that a run keeps from line to line, but for the tables and the buffers: the controller with the free place of the output, what
+// ticks are lent, the clock and the line's number.
 pub struct Run {
-    pub held: Held,
-    pub accepted: u64,
+    pub holder: Holder,
     pub lent: Lent,
     pub clock: Clock,
     pub number: u64,
-    pub out: usize,
-}
-
-// Readings `1 192 50 0 3000 1000 0 0 0 0`, one voltage, one temperature, a buffer of 117.
-fn first_lent() -> Lent {
-    Lent {
-        readings: Readings {
-            one: 1,
-            two: 192,
-            soc: 50,
-            current: 0,
-            pack: TenthVolts(3000),
-            capacity: 1000,
-            faults: Marks {
-                active: 0,
-                latched: 0,
-            },
-            warnings: Marks {
-                active: 0,
-                latched: 0,
-            },
-        },
-        volts: 1,
-        temps: 1,
-        room: 117,
-    }
 }
 
 impl Run {
     pub fn start() -> Run {
         Run {
-            held: Held::Nothing,
-            accepted: 0,
-            lent: first_lent(),
+            holder: Holder::start(),
+            lent: Lent::start(),
             clock: Clock::start(),
             number: 0,
-            out: 0,
         }
     }
 
-    fn with_out(self, at: usize) -> Run {
+    fn with_holder(self, h: Holder) -> Run {
         let mut r = self;
-        r.out = at;
+        r.holder = h;
         r
     }
 
-    fn with_unit(self, u: Unit) -> Run {
-        let c = u.controller;
-        let l = self.lent;
-        let k = self.clock;
-        Run {
-            held: Held::Made(c),
-            accepted: u.accepted,
-            lent: l,
-            clock: k,
-            number: self.number,
-            out: u.out,
-        }
-    }
-
-    fn unit(self, c: Controller) -> Unit {
-        Unit {
-            controller: c,
-            accepted: self.accepted,
-            out: self.out,
-        }
+    fn with_lent(self, l: Lent) -> Run {
+        let mut r = self;
+        r.lent = l;
+        r
     }
 
     pub fn unreadable(self, o: &mut Out) -> Run {
-        let at = printing::numbered(o, self.out, b"unreadable line ", self.number);
-        self.with_out(at)
-    }
-
-    fn absent(self, o: &mut Out) -> Run {
-        let at = printing::text(o, self.out, b"no controller\n");
-        self.with_out(at)
-    }
-
-    fn standing(self) -> Standing {
-        let held = self.held;
-        match held {
-            Held::Made(c) => Standing::of(c),
-            Held::Nothing => Standing::idle(),
-        }
-    }
-
-    // A settings record of so many bytes.
-    fn settings(self, bytes: &Bytes, n: usize, o: &mut Out) -> Run {
-        match calls::started(bytes, n) {
-            Start::Made(c) => {
-                let a = printing::numbered(o, self.out, b"settings ", 0);
-                let now = Standing::of(c);
-                let b = now.print_if_new(self.standing(), o, a);
-                self.with_unit(Unit {
-                    controller: c,
-                    accepted: 0,
-                    out: b,
-                })
-            }
-            Start::Refused(n) => {
-                let a = printing::numbered(o, self.out, b"settings ", n as u64);
-                self.with_out(a)
-            }
-        }
-    }
-
-    fn readings(self, x: Readings) -> Run {
-        let l = self.lent;
-        let next = Lent {
-            readings: x,
-            volts: l.volts,
-            temps: l.temps,
-            room: l.room,
-        };
-        let mut r = self;
-        r.lent = next;
-        r
-    }
-
-    fn voltages(self, n: usize) -> Run {
-        let mut r = self;
-        r.lent.volts = n;
-        r
-    }
-
-    fn temperatures(self, n: usize) -> Run {
-        let mut r = self;
-        r.lent.temps = n;
-        r
-    }
-
-    fn buffer(self, n: usize) -> Run {
-        let mut r = self;
-        r.lent.room = n;
-        r
-    }
-
-    // So many ticks, where there is a controller.
-    fn run_ticks(
-        self,
-        n: u64,
-        v: &Voltages,
-        t: &Temperatures,
-        buf: &mut Buffer,
-        o: &mut Out,
-    ) -> Run {
-        let held = self.held;
-        match held {
-            Held::Made(c) => {
-                let u = self.unit(c);
-                let l = self.lent;
-                self.with_unit(u.ticks(n, l, v, t, buf, o))
-            }
-            Held::Nothing => self,
-        }
-    }
-
-    // A line of so many ticks.
-    fn ticks(self, n: u64, v: &Voltages, t: &Temperatures, buf: &mut Buffer, o: &mut Out) -> Run {
-        let held = self.held;
-        match held {
-            Held::Made(_) => self.run_ticks(n, v, t, buf, o),
-            Held::Nothing => self.absent(o),
-        }
-    }
-
-    fn write(self, n: usize, buf: &mut Buffer, o: &mut Out) -> Run {
-        let held = self.held;
-        match held {
-            Held::Made(c) => {
-                let u = self.unit(c);
-                let a = u.write(n, buf, o);
-                self.with_out(a)
-            }
-            Held::Nothing => self.absent(o),
-        }
-    }
-
-    fn frame(self, id: u32, bytes: &Bytes, n: usize, o: &mut Out) -> Run {
-        let held = self.held;
-        match held {
-            Held::Made(c) => {
-                let u = self.unit(c);
-                self.with_unit(u.frame(id, bytes, n, o))
-            }
-            Held::Nothing => self.absent(o),
-        }
+        let h = self.holder;
+        let at = printing::numbered(o, h.out, b"unreadable line ", self.number);
+        self.with_holder(h.with_out(at))
     }
 
     // A frame of a log, at its time: first the ticks that are due.
@@ -234,10 +62,12 @@ impl Run {
         let clock = self.clock;
         match clock.due(now) {
             Due::Ticks(k, later) => {
+                let h = self.holder;
+                let l = self.lent;
                 let mut r = self;
                 r.clock = later;
-                let s = r.run_ticks(k, v, t, buf, o);
-                s.frame(id, bytes, n, o)
+                let g = h.ticks(k, l, v, t, buf, o);
+                r.with_holder(g.frame(id, bytes, n, o))
             }
             Due::TooMany => self.unreadable(o),
         }
@@ -253,16 +83,17 @@ impl Run {
         buf: &mut Buffer,
         o: &mut Out,
     ) -> Run {
+        let h = self.holder;
         match call {
-            Call::Settings(n) => self.settings(bytes, n, o),
-            Call::Readings(x) => self.readings(x),
-            Call::Voltages(n) => self.voltages(n),
-            Call::Temperatures(n) => self.temperatures(n),
-            Call::Buffer(n) => self.buffer(n),
-            Call::Ticks(n) => self.ticks(n, v, t, buf, o),
-            Call::Frame(id, n) => self.frame(id, bytes, n, o),
+            Call::Settings(n) => self.with_holder(h.settings(bytes, n, o)),
+            Call::Lend(l) => self.with_lent(l),
+            Call::Ticks(n) => {
+                let g = h.asked(o);
+                self.with_holder(g.ticks(n, self.lent, v, t, buf, o))
+            }
+            Call::Frame(id, n) => self.with_holder(h.frame(id, bytes, n, o)),
             Call::Log(now, id, n) => self.log(now, id, bytes, n, v, t, buf, o),
-            Call::Write(n) => self.write(n, buf, o),
+            Call::Write(n) => self.with_holder(h.write(n, buf, o)),
             Call::Unreadable => self.unreadable(o),
         }
     }

@@ -3,10 +3,10 @@
 use clock::Time;
 use forms::Kind;
 use forms::Received;
-use readings::Readings;
+use lent::Lent;
+use lent::Temperatures;
+use lent::Voltages;
 use tables::Table;
-use tables::Temperatures;
-use tables::Voltages;
 use words::Text;
 use words::Word;
 use words::numbers::Bytes;
@@ -14,15 +14,14 @@ use words::numbers::Hex;
 
 pub mod clock;
 pub mod forms;
+pub mod lent;
 pub mod tables;
 
-// What a line asks for. The bytes of a record and of a frame, and the tables, stand in what the reader was lent.
+// What a line asks for. The bytes of a record and of a frame stand in what the reader was lent.
 pub enum Call {
     Settings(usize),
-    Readings(Readings),
-    Voltages(usize),
-    Temperatures(usize),
-    Buffer(usize),
+    // What each later tick is lent.
+    Lend(Lent),
     Ticks(u64),
     Frame(u32, usize),
     // A frame of a log: its time in microseconds before it.
@@ -42,31 +41,31 @@ fn settings(line: &Text, used: usize, at: usize, bytes: &mut Bytes) -> Call {
     }
 }
 
-fn readings(line: &Text, used: usize, at: usize) -> Call {
+fn readings(line: &Text, used: usize, at: usize, l: Lent) -> Call {
     let k = tables::read_readings(line, used, at);
     if k.good {
         let x = k.readings;
-        Call::Readings(x)
+        Call::Lend(l.with_readings(x))
     } else {
         Call::Unreadable
     }
 }
 
-fn voltages(line: &Text, used: usize, at: usize, v: &mut Voltages) -> Call {
+fn voltages(line: &Text, used: usize, at: usize, l: Lent, v: &mut Voltages) -> Call {
     match tables::count_numbers(line, used, at, false) {
         Table::Of(n) => {
             tables::keep_voltages(line, used, at, n, v);
-            Call::Voltages(n)
+            Call::Lend(l.with_volts(n))
         }
         Table::Not => Call::Unreadable,
     }
 }
 
-fn temperatures(line: &Text, used: usize, at: usize, t: &mut Temperatures) -> Call {
+fn temperatures(line: &Text, used: usize, at: usize, l: Lent, t: &mut Temperatures) -> Call {
     match tables::count_numbers(line, used, at, true) {
         Table::Of(n) => {
             tables::keep_temperatures(line, used, at, n, t);
-            Call::Temperatures(n)
+            Call::Lend(l.with_temps(n))
         }
         Table::Not => Call::Unreadable,
     }
@@ -77,10 +76,10 @@ fn place(x: u64) -> usize {
     if x <= MOST { x as usize } else { 0 }
 }
 
-fn buffer(line: &Text, used: usize, at: usize) -> Call {
+fn buffer(line: &Text, used: usize, at: usize, l: Lent) -> Call {
     let f = tables::only(line, used, at, MOST);
     if f.good {
-        Call::Buffer(place(f.value))
+        Call::Lend(l.with_room(place(f.value)))
     } else {
         Call::Unreadable
     }
@@ -124,10 +123,11 @@ fn log(line: &Text, used: usize, w: Word, bytes: &mut Bytes) -> Call {
     }
 }
 
-// The line, by its first word.
+// The line, by its first word, where `l` is what ticks are lent before it.
 pub fn read(
     line: &Text,
     used: usize,
+    l: Lent,
     bytes: &mut Bytes,
     v: &mut Voltages,
     t: &mut Temperatures,
@@ -136,10 +136,10 @@ pub fn read(
     let at = w.to;
     match forms::kind_of(line, used, w) {
         Kind::Settings => settings(line, used, at, bytes),
-        Kind::Readings => readings(line, used, at),
-        Kind::Voltages => voltages(line, used, at, v),
-        Kind::Temperatures => temperatures(line, used, at, t),
-        Kind::Buffer => buffer(line, used, at),
+        Kind::Readings => readings(line, used, at, l),
+        Kind::Voltages => voltages(line, used, at, l, v),
+        Kind::Temperatures => temperatures(line, used, at, l, t),
+        Kind::Buffer => buffer(line, used, at, l),
         Kind::Tick => tick(line, used, at),
         Kind::Frame => frame(line, used, w, bytes),
         Kind::Log => log(line, used, w, bytes),

@@ -1,15 +1,12 @@
 // The readings and the cell tables that a line gives. Nothing is kept of a line that cannot be read.
+use crate::lent::Temperatures;
+use crate::lent::Voltages;
 use readings::Marks;
 use readings::Readings;
 use units::TenthVolts;
 use words::Text;
 use words::numbers;
 use words::numbers::Fit;
-
-// The cell tables: more than a tick takes, so that it can be seen to refuse.
-pub type Voltages = [u16; 512];
-
-pub type Temperatures = [i16; 512];
 
 // How many entries a table has then, or a line that cannot be read.
 pub enum Table {

@@ -1,8 +1,8 @@
--- `calls::print_frames` is safe and ends: the bytes that are left fall. Assumes nothing.
+-- `reports::print_frames` is safe and ends: the bytes that are left fall. Assumes nothing.
 use borrow.Author.Needs.{needs}
 use Prim.Native.Nat.{_-_}
-use Rattle.calls.proofs.print_frames.Statement.{statement}
-use Rattle.calls.proofs.print_frames.Tie as tie
+use Rattle.reports.proofs.print_frames.Statement.{statement}
+use Rattle.reports.proofs.print_frames.Tie as tie
 
 abbrev Inv-loop : tie.InvT-loop
 Inv-loop buf n tick o₀ at a₀ i₀ o a i = Unit {0}
