@@ -1,15 +1,6 @@
-// Replays a list of calls: reads them on standard input, a line each, and writes what the controller answers, sends and enters.
-//   settings HEX                    a settings record (`-`: no bytes); one that is accepted makes a fresh controller
-//   readings ST1 ST2 SOC CURRENT PACKV CAPACITY AF LF AW LW
-//   voltages N N ..                 the cell tables that each later tick is lent
-//   temperatures N N ..
-//   buffer N                        the length of the buffer that each later tick is lent
-//   tick [N]                        one tick, or N
-//   ID#DATA                         a received frame, in hex
-//   (SECONDS.MICROS) IFACE ID#DATA  the same from a candump log, after the ticks that are due by then
-//   write N                         the settings in use, into a buffer of N bytes
-// A blank line or one that begins with `#` is ignored. A line that is none of these is answered `unreadable line N`.
-// This crate only joins: it may not know how a line is written, how a call is printed, or any rule of the paper.
+// Replays a list of calls: reads them on standard input, a line each (crate scripts), and writes what the controller answers, sends and
+// enters. A blank line or one that begins with `#` is ignored; one that asks for nothing known is answered `unreadable line N`. This
+// crate only joins: it may not know how a line is written, how an answer is printed, or any rule of the paper.
 mod run;
 
 use libc::STDIN_FILENO;

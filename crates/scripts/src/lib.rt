@@ -1,5 +1,15 @@
-// One line of a script, read as the call or the setting that it is: its kind by its first word, the numbers, tables and bytes in it, and
-// which ticks a candump log's time makes due. This crate may not know any controller, nor what a call comes to.
+// One line of a script, read as the call or the setting that it asks for:
+//   settings HEX                    a settings record (`-`: no bytes); one that is accepted makes a fresh controller
+//   readings ST1 ST2 SOC CURRENT PACKV CAPACITY AF LF AW LW
+//   voltages N N ..                 the cell tables that each later tick is lent
+//   temperatures N N ..
+//   buffer N                        the length of the buffer that each later tick is lent
+//   tick [N]                        one tick, or N
+//   ID#DATA                         a received frame, in hex
+//   (SECONDS.MICROS) IFACE ID#DATA  the same from a candump log, after the ticks that are due by then
+//   write N                         the settings in use, into a buffer of N bytes
+// Besides, what ticks are lent, and which are due by a candump log's clock. This crate may not know any controller, nor what a call comes
+// to.
 use clock::Time;
 use forms::Kind;
 use forms::Received;
