@@ -44,7 +44,7 @@ impl Holder {
         }
     }
 
-    pub fn with_out(self, at: usize) -> Holder {
+    fn with_out(self, at: usize) -> Holder {
         let mut h = self;
         h.out = at;
         h
@@ -60,6 +60,12 @@ impl Holder {
 
     fn absent(self, o: &mut Out) -> Holder {
         let at = printing::text(o, self.out, b"no controller\n");
+        self.with_out(at)
+    }
+
+    // A line that asks for nothing known.
+    pub fn unreadable(self, number: u64, o: &mut Out) -> Holder {
+        let at = printing::numbered(o, self.out, b"unreadable line ", number);
         self.with_out(at)
     }
 

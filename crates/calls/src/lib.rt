@@ -121,18 +121,9 @@ impl Unit {
         u
     }
 
+    // The place past what is printed: a write leaves the controller as it is.
     pub fn write(self, n: usize, buf: &mut Buffer, o: &mut Out) -> usize {
         let w = written(self.controller, buf, n);
-        let mut a = printing::text(o, self.out, b"write ");
-        a = printing::decimal(o, a, w.number as u64, 1);
-        a = printing::put(o, a, b' ');
-        a = printing::decimal(o, a, w.bytes as u64, 1);
-        a = printing::put(o, a, b' ');
-        if w.bytes == 0 {
-            a = printing::put(o, a, b'-');
-        } else {
-            a = printing::bytes(o, a, buf, 0, w.bytes);
-        }
-        printing::put(o, a, b'\n')
+        reports::print_write(w.number, w.bytes, buf, o, self.out)
     }
 }

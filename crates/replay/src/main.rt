@@ -20,29 +20,6 @@ struct Place {
     more: bool,
 }
 
-// The end of a line.
-fn ended(
-    r: Run,
-    l: Line,
-    kept: &Text,
-    bytes: &mut Bytes,
-    v: &mut Voltages,
-    t: &mut Temperatures,
-    buf: &mut Buffer,
-    o: &mut Out,
-) -> Run {
-    let mut s = r;
-    s.number = calls::next(r.number);
-    if l.is_ignored() {
-        return s;
-    }
-    if l.long {
-        return s.unreadable(o);
-    }
-    let c = scripts::read(kept, l.used, s.lent, bytes, v, t);
-    s.carry_out(c, bytes, v, t, buf, o)
-}
-
 // One read of the input.
 fn chunk(
     p: Place,
@@ -62,7 +39,7 @@ fn chunk(
     while i < n {
         let b = input[i];
         if b == b'\n' {
-            r = ended(r, l, kept, bytes, v, t, buf, o);
+            r = r.ended(l, kept, bytes, v, t, buf, o);
             l = Line::start();
         } else {
             l = l.with(kept, b);
@@ -108,15 +85,7 @@ fn main() {
         );
         turns -= 1;
     }
-    let r = ended(
-        p.run,
-        p.line,
-        &kept,
-        &mut bytes,
-        &mut v,
-        &mut t,
-        &mut buf,
-        &mut o,
-    );
+    let last = p.run;
+    let r = last.ended(p.line, &kept, &mut bytes, &mut v, &mut t, &mut buf, &mut o);
     printing::finish(&o, r.holder.out);
 }

@@ -3,11 +3,12 @@ use calls::holder::Holder;
 use printing::Out;
 use scripts::Call;
 use scripts::clock::Clock;
-use scripts::clock::Due;
 use scripts::lent::Buffer;
 use scripts::lent::Lent;
 use scripts::lent::Temperatures;
 use scripts::lent::Voltages;
+use words::Text;
+use words::lines::Line;
 use words::numbers::Bytes;
 
 // All that a run keeps from line to line, but for the tables and the buffers: the controller with the free place of the output, what
@@ -17,6 +18,34 @@ pub struct Run {
     pub lent: Lent,
     pub clock: Clock,
     pub number: u64,
+}
+
+// The line of a number, done, where `l` is what ticks are lent.
+fn carry_out(
+    h: Holder,
+    call: Call,
+    number: u64,
+    l: Lent,
+    bytes: &Bytes,
+    v: &Voltages,
+    t: &Temperatures,
+    buf: &mut Buffer,
+    o: &mut Out,
+) -> Holder {
+    match call {
+        Call::Settings(n) => h.settings(bytes, n, o),
+        Call::Lend(_) => h,
+        Call::Ticks(n) => {
+            let g = h.asked(o);
+            g.ticks(n, l, v, t, buf, o)
+        }
+        Call::Frame(id, n, ticks, _) => {
+            let g = h.ticks(ticks, l, v, t, buf, o);
+            g.frame(id, bytes, n, o)
+        }
+        Call::Write(n) => h.write(n, buf, o),
+        Call::Unreadable => h.unreadable(number, o),
+    }
 }
 
 impl Run {
@@ -29,72 +58,46 @@ impl Run {
         }
     }
 
-    fn with_holder(self, h: Holder) -> Run {
-        let mut r = self;
-        r.holder = h;
-        r
-    }
-
-    fn with_lent(self, l: Lent) -> Run {
-        let mut r = self;
-        r.lent = l;
-        r
-    }
-
-    pub fn unreadable(self, o: &mut Out) -> Run {
-        let h = self.holder;
-        let at = printing::numbered(o, h.out, b"unreadable line ", self.number);
-        self.with_holder(h.with_out(at))
-    }
-
-    // A frame of a log, at its time: first the ticks that are due.
-    fn log(
+    // What a line asks for that is neither blank nor a comment.
+    fn asked(
         self,
-        now: u64,
-        id: u32,
-        bytes: &Bytes,
-        n: usize,
-        v: &Voltages,
-        t: &Temperatures,
+        l: Line,
+        kept: &Text,
+        bytes: &mut Bytes,
+        v: &mut Voltages,
+        t: &mut Temperatures,
+    ) -> Call {
+        if l.long {
+            return Call::Unreadable;
+        }
+        scripts::read(kept, l.used, self.lent, self.clock, bytes, v, t)
+    }
+
+    // The end of a line.
+    pub fn ended(
+        self,
+        l: Line,
+        kept: &Text,
+        bytes: &mut Bytes,
+        v: &mut Voltages,
+        t: &mut Temperatures,
         buf: &mut Buffer,
         o: &mut Out,
     ) -> Run {
-        let clock = self.clock;
-        match clock.due(now) {
-            Due::Ticks(k, later) => {
-                let h = self.holder;
-                let l = self.lent;
-                let mut r = self;
-                r.clock = later;
-                let g = h.ticks(k, l, v, t, buf, o);
-                r.with_holder(g.frame(id, bytes, n, o))
-            }
-            Due::TooMany => self.unreadable(o),
+        let mut r = self;
+        let number = calls::next(self.number);
+        r.number = number;
+        if l.is_ignored() {
+            return r;
         }
-    }
-
-    // What a line asks for, done.
-    pub fn carry_out(
-        self,
-        call: Call,
-        bytes: &Bytes,
-        v: &Voltages,
-        t: &Temperatures,
-        buf: &mut Buffer,
-        o: &mut Out,
-    ) -> Run {
+        let c = r.asked(l, kept, bytes, v, t);
+        let lent = c.lent(self.lent);
+        let k = c.clock(self.clock);
         let h = self.holder;
-        match call {
-            Call::Settings(n) => self.with_holder(h.settings(bytes, n, o)),
-            Call::Lend(l) => self.with_lent(l),
-            Call::Ticks(n) => {
-                let g = h.asked(o);
-                self.with_holder(g.ticks(n, self.lent, v, t, buf, o))
-            }
-            Call::Frame(id, n) => self.with_holder(h.frame(id, bytes, n, o)),
-            Call::Log(now, id, n) => self.log(now, id, bytes, n, v, t, buf, o),
-            Call::Write(n) => self.with_holder(h.write(n, buf, o)),
-            Call::Unreadable => self.unreadable(o),
-        }
+        r.lent = lent;
+        r.clock = k;
+        let g = carry_out(h, c, number, lent, bytes, v, t, buf, o);
+        r.holder = g;
+        r
     }
 }

@@ -1,5 +1,5 @@
-// What a controller sent and entered, as lines: the frames of a tick as candump writes them, and a session's standing where it is another
-// than before. This crate may not know any controller, nor why a frame was sent.
+// What a controller sent, wrote and entered, as lines: the frames of a tick as candump writes them, a settings record, and a session's
+// standing where it is another than before. This crate may not know any controller, nor why a frame was sent.
 ghost use Prim.Native.Nat.{_≤_};
 use printing::Out;
 use states::State;
@@ -118,4 +118,19 @@ pub fn print_frames(buf: &[u8], n: usize, tick: u64, o: &mut Out, at: usize) -> 
         i += 13;
     }
     a
+}
+
+// A write's number, the bytes that it wrote, and these.
+pub fn print_write(number: u8, n: usize, buf: &[u8], o: &mut Out, at: usize) -> usize {
+    let mut a = printing::text(o, at, b"write ");
+    a = printing::decimal(o, a, number as u64, 1);
+    a = printing::put(o, a, b' ');
+    a = printing::decimal(o, a, n as u64, 1);
+    a = printing::put(o, a, b' ');
+    if n == 0 {
+        a = printing::put(o, a, b'-');
+    } else {
+        a = printing::bytes(o, a, buf, 0, n);
+    }
+    printing::put(o, a, b'\n')
 }

@@ -10,6 +10,8 @@
 //   write N                         the settings in use, into a buffer of N bytes
 // Besides, what ticks are lent, and which are due by a candump log's clock. This crate may not know any controller, nor what a call comes
 // to.
+use clock::Clock;
+use clock::Due;
 use clock::Time;
 use forms::Kind;
 use forms::Received;
@@ -33,11 +35,28 @@ pub enum Call {
     // What each later tick is lent.
     Lend(Lent),
     Ticks(u64),
-    Frame(u32, usize),
-    // A frame of a log: its time in microseconds before it.
-    Log(u64, u32, usize),
+    // A frame, the ticks that are due before it, and the clock then.
+    Frame(u32, usize, u64, Clock),
     Write(usize),
     Unreadable,
+}
+
+impl Call {
+    // What ticks are lent after it.
+    pub fn lent(self, before: Lent) -> Lent {
+        match self {
+            Call::Lend(l) => l,
+            _ => before,
+        }
+    }
+
+    // The clock after it.
+    pub fn clock(self, before: Clock) -> Clock {
+        match self {
+            Call::Frame(_, _, _, k) => k,
+            _ => before,
+        }
+    }
 }
 
 // The longest buffer that a line may ask for.
@@ -113,31 +132,41 @@ fn tick(line: &Text, used: usize, at: usize) -> Call {
     }
 }
 
-fn frame(line: &Text, used: usize, w: Word, bytes: &mut Bytes) -> Call {
+// A frame that comes at no time.
+fn frame(line: &Text, used: usize, w: Word, k: Clock, bytes: &mut Bytes) -> Call {
     match forms::read_frame(line, used, w, bytes) {
-        Received::Frame(id, n) => Call::Frame(id, n),
+        Received::Frame(id, n) => Call::Frame(id, n, 0, k),
         Received::Not => Call::Unreadable,
     }
 }
 
-// (SECONDS.MICROS) IFACE ID#DATA.
-fn log(line: &Text, used: usize, w: Word, bytes: &mut Bytes) -> Call {
-    let face = words::next_word(line, used, w.to);
-    let last = words::next_word(line, used, face.to);
-    let Received::Frame(id, n) = forms::read_frame(line, used, last, bytes) else {
+// A frame after the ticks that are due by the time of its line.
+fn timed(line: &Text, used: usize, w: Word, k: Clock, id: u32, n: usize) -> Call {
+    let Time::At(now) = clock::read_time(line, used, w) else {
         return Call::Unreadable;
     };
-    match clock::read_time(line, used, w) {
-        Time::At(now) => Call::Log(now, id, n),
-        Time::Not => Call::Unreadable,
+    match k.due(now) {
+        Due::Ticks(ticks, later) => Call::Frame(id, n, ticks, later),
+        Due::TooMany => Call::Unreadable,
     }
 }
 
-// The line, by its first word, where `l` is what ticks are lent before it.
+// (SECONDS.MICROS) IFACE ID#DATA.
+fn log(line: &Text, used: usize, w: Word, k: Clock, bytes: &mut Bytes) -> Call {
+    let face = words::next_word(line, used, w.to);
+    let last = words::next_word(line, used, face.to);
+    match forms::read_frame(line, used, last, bytes) {
+        Received::Frame(id, n) => timed(line, used, w, k, id, n),
+        Received::Not => Call::Unreadable,
+    }
+}
+
+// The line, by its first word, where `l` is what ticks are lent and `k` the clock before it.
 pub fn read(
     line: &Text,
     used: usize,
     l: Lent,
+    k: Clock,
     bytes: &mut Bytes,
     v: &mut Voltages,
     t: &mut Temperatures,
@@ -151,8 +180,8 @@ pub fn read(
         Kind::Temperatures => temperatures(line, used, at, l, t),
         Kind::Buffer => buffer(line, used, at, l),
         Kind::Tick => tick(line, used, at),
-        Kind::Frame => frame(line, used, w, bytes),
-        Kind::Log => log(line, used, w, bytes),
+        Kind::Frame => frame(line, used, w, k, bytes),
+        Kind::Log => log(line, used, w, k, bytes),
         Kind::Write => write(line, used, at),
     }
 }
