@@ -5,8 +5,8 @@ mod run;
 
 use libc::STDIN_FILENO;
 use printing::Out;
+use reports::Buffer;
 use run::Run;
-use scripts::lent::Buffer;
 use scripts::lent::Temperatures;
 use scripts::lent::Voltages;
 use words::Text;

@@ -1,9 +1,9 @@
 // A run: what is kept from line to line, and what a line asks for, carried out.
 use calls::holder::Holder;
 use printing::Out;
+use reports::Buffer;
 use scripts::Call;
 use scripts::clock::Clock;
-use scripts::lent::Buffer;
 use scripts::lent::Lent;
 use scripts::lent::Temperatures;
 use scripts::lent::Voltages;

@@ -4,6 +4,9 @@ ghost use Prim.Native.Nat.{_≤_};
 use printing::Out;
 use states::State;
 
+// The buffer of which each tick and write is lent the first bytes.
+pub type Buffer = [u8; 4096];
+
 // A session's state and station, as they are printed.
 pub struct Standing {
     pub state: u8,
@@ -86,7 +89,7 @@ fn print_time(tick: u64, o: &mut Out, at: usize) -> usize {
 }
 
 // The identifier of a frame of a buffer.
-fn print_identifier(buf: &[u8], i: usize, o: &mut Out, at: usize) -> usize
+fn print_identifier(buf: &Buffer, i: usize, o: &mut Out, at: usize) -> usize
     requires { ⌜ i ≤ 4096 ⌝ }
 {
     let a = printing::byte(o, at, buffers::byte_at(buf, i + 3));
@@ -96,7 +99,7 @@ fn print_identifier(buf: &[u8], i: usize, o: &mut Out, at: usize) -> usize
 }
 
 // One frame of a buffer, as candump writes it.
-fn print_frame(buf: &[u8], i: usize, tick: u64, o: &mut Out, at: usize) -> usize
+fn print_frame(buf: &Buffer, i: usize, tick: u64, o: &mut Out, at: usize) -> usize
     requires { ⌜ i ≤ 4096 ⌝ }
 {
     let a = print_time(tick, o, at);
@@ -106,8 +109,8 @@ fn print_frame(buf: &[u8], i: usize, tick: u64, o: &mut Out, at: usize) -> usize
     printing::put(o, d, b'\n')
 }
 
-// The frames in the first n bytes of a buffer, which are 4096 at most.
-pub fn print_frames(buf: &[u8], n: usize, tick: u64, o: &mut Out, at: usize) -> usize {
+// The frames in the first n bytes of a buffer.
+pub fn print_frames(buf: &Buffer, n: usize, tick: u64, o: &mut Out, at: usize) -> usize {
     let mut a = at;
     let mut i = 0;
     while i < 4096 {
@@ -121,7 +124,7 @@ pub fn print_frames(buf: &[u8], n: usize, tick: u64, o: &mut Out, at: usize) -> 
 }
 
 // A write's number, the bytes that it wrote, and these.
-pub fn print_write(number: u8, n: usize, buf: &[u8], o: &mut Out, at: usize) -> usize {
+pub fn print_write(number: u8, n: usize, buf: &Buffer, o: &mut Out, at: usize) -> usize {
     let mut a = printing::text(o, at, b"write ");
     a = printing::decimal(o, a, number as u64, 1);
     a = printing::put(o, a, b' ');

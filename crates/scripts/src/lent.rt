@@ -8,9 +8,6 @@ pub type Voltages = [u16; 512];
 
 pub type Temperatures = [i16; 512];
 
-// The buffer of which each tick and write is lent the first bytes.
-pub type Buffer = [u8; 4096];
-
 // The readings, and how much of each table and of the buffer.
 pub struct Lent {
     pub readings: Readings,
