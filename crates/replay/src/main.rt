@@ -61,6 +61,7 @@ fn main() {
     let mut t = [0i16; 512];
     let mut buf = [0u8; 4096];
     let mut o = [0u8; 65536];
+    // The tables at the start, of one cell each: 3.30 V and 70 F.
     v[0] = 330;
     t[0] = 70;
     let mut p = Place {
