@@ -1,31 +1,17 @@
-// Replays a list of calls: reads them on standard input, a line each, and writes what the controller answers, sends and enters.
-//   settings HEX                    a settings record (`-`: no bytes); one that is accepted makes a fresh controller
-//   readings ST1 ST2 SOC CURRENT PACKV CAPACITY AF LF AW LW
-//   voltages N N ..                 the cell tables that each later tick is lent
-//   temperatures N N ..
-//   buffer N                        the length of the buffer that each later tick is lent
-//   tick [N]                        one tick, or N
-//   ID#DATA                         a received frame, in hex
-//   (SECONDS.MICROS) IFACE ID#DATA  the same from a candump log, after the ticks that are due by then
-//   write N                         the settings in use, into a buffer of N bytes
-// A blank line or one that begins with `#` is ignored. A line that is none of these is answered `unreadable line N`.
-mod calls;
-mod clock;
-mod forms;
-mod lines;
-mod print;
-mod script;
-mod tables;
-mod words;
+// Replays a list of calls: reads them on standard input, a line each (crate scripts), and writes what the controller answers, sends and
+// enters. A blank line or one that begins with `#` is ignored; one that asks for nothing known is answered `unreadable line N`. This
+// crate only joins: it may not know how a line is written, how an answer is printed, or any rule of the paper.
+mod run;
 
-use calls::Buffer;
 use libc::STDIN_FILENO;
-use lines::Line;
-use lines::Text;
-use print::Out;
-use script::Run;
-use tables::Temperatures;
-use tables::Voltages;
+use printing::Out;
+use reports::Buffer;
+use run::Run;
+use scripts::lent::Temperatures;
+use scripts::lent::Voltages;
+use words::Text;
+use words::lines::Line;
+use words::numbers::Bytes;
 
 // A run and the line that it is in, and whether there may be more input.
 struct Place {
@@ -34,32 +20,12 @@ struct Place {
     more: bool,
 }
 
-// The end of a line.
-fn ended(
-    r: Run,
-    l: Line,
-    kept: &Text,
-    v: &mut Voltages,
-    t: &mut Temperatures,
-    buf: &mut Buffer,
-    o: &mut Out,
-) -> Run {
-    let mut s = r;
-    s.number = calls::next(r.number);
-    if l.is_ignored() {
-        return s;
-    }
-    if l.long {
-        return s.unreadable(o);
-    }
-    s.line(kept, l.used, v, t, buf, o)
-}
-
 // One read of the input.
 fn chunk(
     p: Place,
     input: &mut [u8; 65536],
     kept: &mut Text,
+    bytes: &mut Bytes,
     v: &mut Voltages,
     t: &mut Temperatures,
     buf: &mut Buffer,
@@ -73,7 +39,7 @@ fn chunk(
     while i < n {
         let b = input[i];
         if b == b'\n' {
-            r = ended(r, l, kept, v, t, buf, o);
+            r = r.ended(l, kept, bytes, v, t, buf, o);
             l = Line::start();
         } else {
             l = l.with(kept, b);
@@ -90,10 +56,12 @@ fn chunk(
 fn main() {
     let mut input = [0u8; 65536];
     let mut kept = [0u8; 4096];
+    let mut bytes = [0u8; 2048];
     let mut v = [0u16; 512];
     let mut t = [0i16; 512];
     let mut buf = [0u8; 4096];
     let mut o = [0u8; 65536];
+    // The tables at the start, of one cell each: 3.30 V and 70 F.
     v[0] = 330;
     t[0] = 70;
     let mut p = Place {
@@ -106,9 +74,19 @@ fn main() {
         if !p.more {
             break;
         }
-        p = chunk(p, &mut input, &mut kept, &mut v, &mut t, &mut buf, &mut o);
+        p = chunk(
+            p,
+            &mut input,
+            &mut kept,
+            &mut bytes,
+            &mut v,
+            &mut t,
+            &mut buf,
+            &mut o,
+        );
         turns -= 1;
     }
-    let r = ended(p.run, p.line, &kept, &mut v, &mut t, &mut buf, &mut o);
-    print::finish(&o, r.out);
+    let last = p.run;
+    let r = last.ended(p.line, &kept, &mut bytes, &mut v, &mut t, &mut buf, &mut o);
+    printing::finish(&o, r.holder.out);
 }

@@ -5,10 +5,10 @@ use Rattle.replay.proofs.chunk.Statement.{statement}
 use Rattle.replay.proofs.chunk.Tie as tie
 
 abbrev Inv-loop : tie.InvT-loop
-Inv-loop input kept₀ v₀ t₀ buf₀ o₀ got n r₀ l₀ i₀ kept v t buf o r l i = n ≤ 65536
+Inv-loop input kept₀ bytes₀ v₀ t₀ buf₀ o₀ got n r₀ l₀ i₀ kept bytes v t buf o r l i = n ≤ 65536
 
 abbrev μ-loop : tie.MeasureT-loop
-μ-loop input kept₀ v₀ t₀ buf₀ o₀ got n r₀ l₀ i₀ kept v t buf o r l i = n - i
+μ-loop input kept₀ bytes₀ v₀ t₀ buf₀ o₀ got n r₀ l₀ i₀ kept bytes v t buf o r l i = n - i
 
 read-requires : tie.Need-read-requires Inv-loop μ-loop
 read-requires c κs = search needs

@@ -1,0 +1,46 @@
+-- `reports::print_frames` is safe and ends: the bytes that are left fall. Assumes nothing.
+use borrow.Author.Needs.{needs}
+use Prim.Native.Nat.{_-_}
+use Rattle.reports.proofs.print_frames.Statement.{statement}
+use Rattle.reports.proofs.print_frames.Tie as tie
+
+abbrev Inv-loop : tie.InvT-loop
+Inv-loop buf n tick o₀ at a₀ i₀ o a i = Unit {0}
+
+abbrev μ-loop : tie.MeasureT-loop
+μ-loop buf n tick o₀ at a₀ i₀ o a i = 4096 - i
+
+loop-holds : tie.Need-loop-holds Inv-loop μ-loop
+loop-holds c = search needs
+
+print-frame-requires : tie.Need-print-frame-requires Inv-loop μ-loop
+print-frame-requires c κs = search needs
+
+add-i : tie.Need-add-i Inv-loop μ-loop
+add-i c = search needs
+
+loop-less : tie.Need-loop-less Inv-loop μ-loop
+loop-less c = search needs
+
+loop-again : tie.Need-loop-again Inv-loop μ-loop
+loop-again c = search needs
+
+returns : tie.Need-returns Inv-loop μ-loop
+returns c = search needs
+
+returns-2 : tie.Need-returns-2 Inv-loop μ-loop
+returns-2 c = search needs
+
+pub print-frames-spec : {M : Type 1} → statement M
+print-frames-spec =
+    tie.close
+    (tie.spec
+    Inv-loop
+    μ-loop
+    loop-holds
+    print-frame-requires
+    add-i
+    loop-less
+    loop-again
+    returns
+    returns-2)
