@@ -18,4 +18,5 @@ pub mod Since
 pub mod ReachFrames
 pub mod ReachStretches
 pub mod Reach
+pub mod ReachLeast
 pub mod ReachRun

@@ -1,10 +1,10 @@
 -- A session cannot be kept from Charging by others: a station whose CIM was taken and which then follows the handshake (specs/Reach.antt) is in
--- Charging after its CRM AA, whatever other addresses send in between (`reaches-charging`). The bound in ticks: it takes 1 + 6 + 1, eight
--- accepted ticks (`takes-eight-ticks`), and eight are enough (proofs/ReachRun.antt has such a run). Assumes nothing.
+-- Charging after its CRM AA, whatever other addresses send in between (`reaches-charging`). In ticks: eight accepted ones are enough
+-- (proofs/ReachRun.antt has such a run), and with fewer no session comes to Charging (proofs/ReachLeast.antt). Assumes nothing.
 use Prim.Native.Nat.{ℕ, _+_, _≤_, _<_}
 use native.Mathlib.Omega.{arith}
 use mathlib.Core.Path.{_≡_, refl, ap, sym, subst, _∙_}
-use mathlib.Core.Bool.{true, false, cond, false≢true}
+use mathlib.Core.Bool.{true, false, false≢true}
 use mathlib.Core.List.{List, [], _∷_}
 use lib.IntN.{ℤ}
 use borrow.Author.Tests.{lt-leb}
@@ -30,7 +30,7 @@ use Rattle.controller.specs.declared.Controller.{Controller}
 use Rattle.controller.specs.Frame.{isIdle, listed, frameTo}
 use Rattle.demands.specs.Machine.{paperNext}
 use Rattle.demands.specs.Apart.{Event, Came, Beaten, Wrote, Reread, accepts, readInto, isRead, after, afterAll, ended, heard}
-use Rattle.demands.specs.Silent.{ticked, ticksIn, endsWithin}
+use Rattle.demands.specs.Silent.{endsWithin}
 use Rattle.demands.specs.Says.{Says}
 use Rattle.demands.specs.Over.{openedWith}
 use Rattle.demands.specs.Reach.{chargingWith, Stretch, UntilCvm, UntilVerified, UntilCmp, UntilCrm, besides, Passing}
@@ -233,33 +233,6 @@ reaches-charging c st o es h f =
     left-out c st es (ap (λ (z : Session). z .station) h)
     (now-open (c .settings) st o UntilCvm 0 0 c w) (g .stays)
     ∙ g .last
-
--- ---- the bound in ticks
-unfoldable leastFor : Stretch → ℕ
-leastFor UntilCvm = 1 + (6 + 1)
-leastFor UntilVerified = 6 + 1
-leastFor UntilCmp = 6 + 1
-leastFor UntilCrm = 1
-
-module _ (x : Settings) (st : ℕ) (o : Offer) where
-  more : (k : Stretch) (n m i : ℕ) → leastFor k ≤ n + m → leastFor k ≤ n + (i + m)
-  more k n m i h = omega (arith, h)
-
-  least : (k : Stretch) (n b : ℕ) (es : List Event) → Follows x st o k n b es → leastFor k ≤ n + ticksIn es
-  unfolding leastFor ticksIn ticked
-  least k n b es (Passes {e = e} {es = fs} h f) = more k n (ticksIn fs) (cond (ticked e) 1 0) (least k n b fs f)
-  least k n b es (Ticks {es = fs} h u l f) = let g : leastFor k ≤ n + 1 + ticksIn fs = least k (n + 1) (b + 1) fs f in rw h (omega (arith, g))
-  least k n b es (Speaks {es = fs} h u f) = more k n (ticksIn fs) 0 (least k n 0 fs f)
-  least k n b es (Delays {es = fs} h l f) = let g : 6 + 1 ≤ 0 + ticksIn fs = least UntilVerified 0 0 fs f in omega (arith, g)
-  least k n b es (VerifiesLater {es = fs} h f) = let g : 6 + 1 ≤ 0 + ticksIn fs = least UntilCmp 0 0 fs f in omega (arith, g)
-  least k n b es (Verifies {es = fs} h l f) = let g : 6 + 1 ≤ 0 + ticksIn fs = least UntilCmp 0 0 fs f in omega (arith, g)
-  least k n b es (Offers {es = fs} h y l f) = let g : 1 ≤ 0 + ticksIn fs = least UntilCrm 0 0 fs f in omega (arith, g)
-  least k n b es (Starts h l) = omega arith
-
-  -- from the CIM that opens the session it takes eight accepted ticks, and eight are enough (proofs/ReachRun.antt)
-  pub takes-eight-ticks : (es : List Event) → Follows x st o UntilCvm 0 0 es → 8 ≤ ticksIn es
-  unfolding leastFor
-  takes-eight-ticks es f = let g : 1 + (6 + 1) ≤ 0 + ticksIn es = least UntilCvm 0 0 es f in omega (arith, g)
 
 -- a listed station's CIM, taken in Idle, is such a beginning
 pub cim-opens : (c : Controller) (st id : ℕ) (s : List ℕ) → c .session .state ≡ Idle → listed st (c .settings .stations) ≡ true

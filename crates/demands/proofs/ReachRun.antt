@@ -150,8 +150,8 @@ charges : (es : List Event) → Follows ours 0x56 offer UntilCvm 0 0 (heard 0x56
 unfolding freshOf
 charges es f = from-cim-to-charging (freshOf ours) 0x56 0x1826_f456 cimData offer es refl is-listed says-cim f
 
--- eight accepted ticks are enough
-pub eight-are-enough : (ticksIn eight ≡ 8) × (afterAll (freshOf ours) (cim ∷ eight) .session ≡ chargingWith ours 0x56 offer)
+-- eight accepted ticks are enough, and fewer never are (`no-sooner`, proofs/ReachLeast.antt)
+pub eight-are-enough : (ticksIn (cim ∷ eight) ≡ 8) × (afterAll (freshOf ours) (cim ∷ eight) .session ≡ chargingWith ours 0x56 offer)
 unfolding eight ticksIn ticked
 eight-are-enough = (rw (such-a-tick .0), charges eight follows-eight)
 

@@ -32,30 +32,42 @@ pub data Stretch : Type 0 where
   UntilCmp : Stretch
   UntilCrm : Stretch
 
--- What the station may say besides, `n` accepted ticks into a stretch: not CST and CEM, by which it would stop or end the session, and not what
--- would move the handshake on at another place than is meant. So CVM may come here as long as no EIM has gone out, and CRM AA as long as no ECP
--- has, or no ERM since the last CMP: there they are refused. CMP may come often, accepted or not, up to the last one. In Offered a CIM is heard;
--- later it goes by `Passing`
+-- What the station may say besides, `n` accepted ticks into a stretch, in the order of "Session by message": what does nothing, what stays, and what
+-- is refused there as out of step. Not CST and CEM, by which it would stop or end the session, and not what would move the handshake on at another
+-- place than is meant. A CIM after Offered goes by `Passing`
 unfoldable pub besides : Stretch → ℕ → ChargeMessage → Bool
+-- Offered: CIM does nothing. CVM is taken once an EIM AA has gone out; besides, it may come as long as none has
 besides UntilCvm n Cim = true
-besides UntilVerified n Cim = false
-besides UntilCmp n Cim = false
-besides UntilCrm n Cim = false
 besides UntilCvm n (Cvm b) = not (goneOut 0 n)
-besides UntilVerified n (Cvm b) = not b
-besides UntilCmp n (Cvm b) = true
-besides UntilCrm n (Cvm b) = true
 besides UntilCvm n (Cmp o) = true
-besides UntilVerified n (Cmp o) = true
-besides UntilCmp n (Cmp o) = true
-besides UntilCrm n (Cmp o) = false
 besides UntilCvm n (Crm b) = true
+besides UntilCvm n (Ccs b) = true
+besides UntilCvm n (Cst b) = false
+besides UntilCvm n Cem = false
+-- Unverified: CVM 00 stays; AA, to Parameters, ends the stretch
+besides UntilVerified n Cim = false
+besides UntilVerified n (Cvm b) = not b
+besides UntilVerified n (Cmp o) = true
 besides UntilVerified n (Crm b) = true
+besides UntilVerified n (Ccs b) = true
+besides UntilVerified n (Cst b) = false
+besides UntilVerified n Cem = false
+-- Parameters, and Ready up to the last CMP: each CMP may come. In Ready CRM AA may be taken; besides, it may come as long as no ECP has gone out
+besides UntilCmp n Cim = false
+besides UntilCmp n (Cvm b) = true
+besides UntilCmp n (Cmp o) = true
 besides UntilCmp n (Crm b) = not (b && goneOut 5 n)
+besides UntilCmp n (Ccs b) = true
+besides UntilCmp n (Cst b) = false
+besides UntilCmp n Cem = false
+-- Ready, since the last CMP: CRM is taken if an ERM AA has gone out since that CMP, and 00 and FF stay; besides, AA may come as long as none has
+besides UntilCrm n Cim = false
+besides UntilCrm n (Cvm b) = true
+besides UntilCrm n (Cmp o) = false
 besides UntilCrm n (Crm b) = not (b && goneOut 0 n)
-besides k n (Ccs b) = true
-besides k n (Cst b) = false
-besides k n Cem = false
+besides UntilCrm n (Ccs b) = true
+besides UntilCrm n (Cst b) = false
+besides UntilCrm n Cem = false
 
 -- what may come at any time, and leaves silence alone: a frame by which the station says no charge message (another's, a cell query, or one that 3
 -- to 10 refuse) or only a CIM; a refused tick; settings written; a settings record that is refused

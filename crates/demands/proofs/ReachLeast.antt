@@ -1,0 +1,357 @@
+-- No charge begins sooner than the handshake allows: from Idle, whoever sends what, a session is in Charging only after eight accepted ticks or more
+-- (`no-sooner`): one for the EIM AA of Offered, six up to the first ECP of Parameters, one for the ERM AA of Ready. Each state with its count needs
+-- so many ticks; a frame never raises that number, and an accepted tick raises it by one at the most. That eight are enough is
+-- `eight-are-enough` (proofs/ReachRun.antt). Assumes nothing.
+use Prim.Native.Nat.{ℕ, _+_, _≤_}
+use native.Mathlib.Omega.{arith}
+use mathlib.Core.Path.{_≡_, refl, ap, _∙_}
+use mathlib.Core.Bool.{Bool, true, false, cond, _&&_, false≢true}
+use mathlib.Core.List.{List, [], _∷_}
+use lib.Dec.{leb, ltb}
+use lib.IntN.{ℤ}
+use borrow.Author.Tests.{ltb-true}
+use Rattle.buffers.proofs.Tests.{and-right}
+use Rattle.messages.specs.Identifier.{partsOf}
+use Rattle.settings.specs.declared.Settings.{Settings}
+use Rattle.settings.specs.declared.SettingsRead.{SettingsRead}
+use Rattle.settings.specs.declared.SettingsRead.the-variants as read
+use Rattle.settings.specs.Read.{readOf}
+use Rattle.controller.specs.Start.{freshOf}
+use Rattle.readings.specs.declared.Readings.{Readings}
+use Rattle.readings.specs.Readings.{wantedOf, aboveOf}
+use Rattle.cells.specs.declared.Cells.{Cells}
+use Rattle.cells.specs.Summaries.{cellsOf}
+use Rattle.charge_messages.specs.declared.ChargeMessage.{ChargeMessage}
+use Rattle.charge_messages.specs.declared.ChargeMessage.the-variants.{Cim, Cvm, Cmp, Crm, Ccs, Cst, Cem}
+use Rattle.phases.specs.declared.Phase.{Phase}
+use Rattle.phases.specs.declared.Cause.{Cause}
+use Rattle.phases.specs.declared.Cause.the-variants.{PackVoltage, Other}
+use Rattle.phases.specs.declared.Turned.{Turned}
+use Rattle.phases.specs.declared.Turned.the-variants as turned
+use Rattle.phases.specs.Phases.{turnedOf}
+use Rattle.states.specs.declared.Est.{Est}
+use Rattle.states.specs.declared.State.{State}
+use Rattle.states.specs.declared.State.the-variants.{Idle, Offered, Unverified, Parameters, Ready, Charging, Stopping, Error}
+use Rattle.outcomes.specs.declared.Outcome.{Outcome}
+use Rattle.outcomes.specs.declared.Outcome.the-variants.{Refuse, OutOfStep, Heard, Enter, Keep, End}
+use Rattle.outcomes.specs.Message.{outcomeOf, inIdle, inOffered, inUnverified, inParameters, inReady, readyOf, crmOf, inCharging, inStopping, inError}
+use Rattle.turns.specs.declared.Turn.{Turn}
+use Rattle.turns.specs.declared.Turn.the-variants as turn
+use Rattle.turns.specs.Turns.{stopOf, estThen, waitingOf, phaseOn, phaseTurn, stopsOf, chargingOf, stoppingOf, errorOf, turnOf, cellFull, packFull}
+use Rattle.session.specs.declared.Session.{Session}
+use Rattle.session.specs.Message.{sessionAfter, appliedOf, messageOf}
+use Rattle.session.specs.Tick.{turnedBy, turnIn}
+use Rattle.literal.specs.Literal.{grown, counted, literalIn, literalAdvance, literalTick}
+use Rattle.controller.specs.declared.Controller.{Controller}
+use Rattle.controller.specs.declared.Answer.{Answer}
+use Rattle.controller.specs.Frame.{withSession, frameTo}
+use Rattle.demands.specs.Machine.{paperNext}
+use Rattle.demands.specs.Apart.{Event, Came, Beaten, Wrote, Reread, accepts, readInto, after, afterAll}
+use Rattle.demands.specs.Kinds.{isCharging}
+use Rattle.demands.specs.Silent.{ticked, ticksIn}
+use Rattle.demands.proofs.Came.{Comes, Unmoved, Took, came}
+use Rattle.demands.proofs.Messages.{mk}
+
+-- the accepted ticks since Idle that a state with this count needs, at the least
+unfoldable needs : State → ℕ → ℕ
+needs Idle n = 0
+needs Offered n = n
+needs Unverified n = 1
+needs Parameters n = 1 + n
+needs (Ready y most) n = 7 + n
+needs (Charging p) n = 8
+needs (Stopping k e) n = 0
+needs Error n = 0
+
+unfoldable needed : Session → ℕ
+needed s = needs (s .state) (s .count)
+
+-- ---- a message
+module _ (x : Settings) (source a b n : ℕ) where
+  -- what it comes to needs no more than there was
+  abbrev NoMore : State → Outcome → Type 0
+  NoMore st o = needed (sessionAfter source (mk a b n st) o) ≤ needs st n
+
+  pick : (st : State) (t : Bool) (o p : Outcome) → (t ≡ true → NoMore st o) → NoMore st p → NoMore st (cond t o p)
+  pick st true o p h k = h refl
+  pick st false o p h k = k
+
+  refuses : (st : State) → NoMore st Refuse
+  unfolding needed sessionAfter
+  refuses st = omega arith
+
+  out-of-step : (st : State) → NoMore st OutOfStep
+  unfolding needed sessionAfter
+  out-of-step st = omega arith
+
+  is-heard : (st : State) → NoMore st Heard
+  unfolding needed sessionAfter
+  is-heard st = omega arith
+
+  ends : (st : State) → NoMore st End
+  unfolding needed needs sessionAfter
+  ends st = omega arith
+
+  -- CST 00 marks Stopping acknowledged
+  marks : (k : Bool) (e : Est) → NoMore (Stopping k e) (Keep (Stopping true e))
+  unfolding needed needs sessionAfter
+  marks k e = omega arith
+
+  enters : (st to : State) → needs to 0 ≤ needs st n → NoMore st (Enter to)
+  unfolding needed sessionAfter
+  enters st to h = h
+
+  -- ---- state by state
+  -- CIM opens Offered, which needs nothing yet
+  idle-needs : (m : ChargeMessage) → NoMore Idle (inIdle m)
+  unfolding inIdle needed needs sessionAfter
+  idle-needs Cim = omega arith
+  idle-needs (Cvm v) = refuses Idle
+  idle-needs (Cmp o) = refuses Idle
+  idle-needs (Crm v) = refuses Idle
+  idle-needs (Ccs v) = refuses Idle
+  idle-needs (Cst v) = refuses Idle
+  idle-needs Cem = refuses Idle
+
+  -- CVM is taken once an EIM AA has gone out: after one tick at the least
+  offered-needs : (m : ChargeMessage) → NoMore Offered (inOffered n m)
+  unfolding inOffered needs
+  offered-needs Cim = is-heard Offered
+  offered-needs (Cvm v) =
+      pick Offered (ltb 0 n) _ _
+      (λ e. pick Offered v _ _ (λ f. enters Offered Parameters (omega (arith, ltb-true 0 n e)))
+      (enters Offered Unverified (omega (arith, ltb-true 0 n e))))
+      (out-of-step Offered)
+  offered-needs (Cmp o) = out-of-step Offered
+  offered-needs (Crm v) = out-of-step Offered
+  offered-needs (Ccs v) = out-of-step Offered
+  offered-needs (Cst v) = enters Offered _ (omega arith)
+  offered-needs Cem = ends Offered
+
+  unverified-needs : (m : ChargeMessage) → NoMore Unverified (inUnverified m)
+  unfolding inUnverified needs
+  unverified-needs Cim = refuses Unverified
+  unverified-needs (Cvm v) = pick Unverified v _ _ (λ e. enters Unverified Parameters (omega arith)) (is-heard Unverified)
+  unverified-needs (Cmp o) = out-of-step Unverified
+  unverified-needs (Crm v) = out-of-step Unverified
+  unverified-needs (Ccs v) = out-of-step Unverified
+  unverified-needs (Cst v) = enters Unverified _ (omega arith)
+  unverified-needs Cem = ends Unverified
+
+  -- CMP is taken once an ECP has gone out: after six ticks of Parameters at the least
+  parameters-needs : (m : ChargeMessage) → NoMore Parameters (inParameters x n m)
+  unfolding inParameters readyOf needs
+  parameters-needs Cim = refuses Parameters
+  parameters-needs (Cvm v) = pick Parameters v _ _ (λ e. is-heard Parameters) (out-of-step Parameters)
+  parameters-needs (Cmp o) =
+      pick Parameters (ltb 5 n) _ _ (λ e. enters Parameters _ (omega (arith, ltb-true 5 n e))) (out-of-step Parameters)
+  parameters-needs (Crm v) = out-of-step Parameters
+  parameters-needs (Ccs v) = out-of-step Parameters
+  parameters-needs (Cst v) = enters Parameters _ (omega arith)
+  parameters-needs Cem = ends Parameters
+
+  -- CRM is taken if an ERM AA has gone out since the last CMP: after one tick at the least
+  ready-needs : (y : Bool) (most : ℕ) (m : ChargeMessage) → NoMore (Ready y most) (inReady x y most n m)
+  unfolding inReady readyOf crmOf needs
+  ready-needs y most Cim = refuses (Ready y most)
+  ready-needs y most (Cvm v) = out-of-step (Ready y most)
+  ready-needs y most (Cmp o) = enters (Ready y most) _ (omega arith)
+  ready-needs y most (Crm v) =
+      pick (Ready y most) (y && ltb 0 n) _ _
+      (λ e. pick (Ready y most) v _ _ (λ f. enters (Ready y most) _ (omega (arith, ltb-true 0 n (and-right y (ltb 0 n) e))))
+      (is-heard (Ready y most)))
+      (out-of-step (Ready y most))
+  ready-needs y most (Ccs v) = out-of-step (Ready y most)
+  ready-needs y most (Cst v) = enters (Ready y most) _ (omega arith)
+  ready-needs y most Cem = ends (Ready y most)
+
+  charging-needs : (p : Phase) (m : ChargeMessage) → NoMore (Charging p) (inCharging m)
+  unfolding inCharging needs
+  charging-needs p Cim = refuses (Charging p)
+  charging-needs p (Cvm v) = refuses (Charging p)
+  charging-needs p (Cmp o) = refuses (Charging p)
+  charging-needs p (Crm v) = refuses (Charging p)
+  charging-needs p (Ccs v) = pick (Charging p) v _ _ (λ e. is-heard (Charging p)) (enters (Charging p) _ (omega arith))
+  charging-needs p (Cst v) = enters (Charging p) _ (omega arith)
+  charging-needs p Cem = ends (Charging p)
+
+  stopping-needs : (k : Bool) (e : Est) (m : ChargeMessage) → NoMore (Stopping k e) (inStopping e n m)
+  unfolding inStopping
+  stopping-needs k e Cim = refuses (Stopping k e)
+  stopping-needs k e (Cvm v) = refuses (Stopping k e)
+  stopping-needs k e (Cmp o) = refuses (Stopping k e)
+  stopping-needs k e (Crm v) = refuses (Stopping k e)
+  stopping-needs k e (Ccs v) = refuses (Stopping k e)
+  stopping-needs k e (Cst v) =
+      pick (Stopping k e) v _ _ (λ f. pick (Stopping k e) (ltb 0 n) _ _ (λ g. ends (Stopping k e)) (refuses (Stopping k e)))
+      (marks k e)
+  stopping-needs k e Cem = ends (Stopping k e)
+
+  error-needs : (m : ChargeMessage) → NoMore Error (inError m)
+  unfolding inError
+  error-needs Cim = refuses Error
+  error-needs (Cvm v) = refuses Error
+  error-needs (Cmp o) = refuses Error
+  error-needs (Crm v) = refuses Error
+  error-needs (Ccs v) = refuses Error
+  error-needs (Cst v) = refuses Error
+  error-needs Cem = ends Error
+
+  message-needs : (st : State) (m : ChargeMessage) → NoMore st (outcomeOf x st n m)
+  unfolding outcomeOf
+  message-needs Idle m = idle-needs m
+  message-needs Offered m = offered-needs m
+  message-needs Unverified m = unverified-needs m
+  message-needs Parameters m = parameters-needs m
+  message-needs (Ready y most) m = ready-needs y most m
+  message-needs (Charging p) m = charging-needs p m
+  message-needs (Stopping k e) m = stopping-needs k e m
+  message-needs Error m = error-needs m
+
+-- a frame, whoever sends it
+frame-needs : (c : Controller) (id : ℕ) (s : List ℕ) (a : Answer) → Comes c id s a → needed (a .controller .session) ≤ needed (c .session)
+unfolding needed withSession messageOf appliedOf
+frame-needs c id s a (Unmoved h n) = let e : needed (a .controller .session) ≡ needed (c .session) = ap needed h in omega (arith, e)
+frame-needs c id s a (Took m says may h) =
+    let e : needed (a .controller .session) ≡ needed (messageOf (c .settings) (partsOf id .source) (c .session) m .session) =
+    ap (λ (z : Answer). needed (z .controller .session)) h in
+    omega (
+      arith,
+      e,
+      message-needs (c .settings) (partsOf id .source) (c .session .station) (c .session .silence) (c .session .count) (c .session .state) m,
+    )
+
+-- ---- a tick
+-- what is needed after a tick's turn
+unfoldable next : Session → Turn → ℕ
+next s t = needed (literalAdvance (turnedBy s t))
+
+-- a state that goes on
+next-on : (s : Session) (st : State) → next s (turn.On st) ≤ needs st (s .count) + 1
+unfolding next needed needs literalAdvance literalIn grown counted turnedBy
+next-on s Idle = omega arith
+next-on s Offered = omega arith
+next-on s Unverified = omega arith
+next-on s Parameters = omega arith
+next-on s (Ready y most) = omega arith
+next-on s (Charging p) = omega arith
+next-on s (Stopping k e) = omega arith
+next-on s Error = omega arith
+
+next-error : (s : Session) → next s (turn.Enter Error) ≡ 0
+unfolding next needed needs literalAdvance literalIn counted turnedBy
+next-error s = refl
+
+next-stop : (x : Settings) (r : Readings) (c : Cells) (s : Session) (k : Cause) → next s (stopOf x r c k) ≡ 0
+unfolding next needed needs literalAdvance literalIn counted turnedBy stopOf
+next-stop x r c s k = refl
+
+next-farewell : (s : Session) → next s turn.Farewell ≡ 0
+unfolding next needed needs literalAdvance literalIn turnedBy
+next-farewell s = refl
+
+next-end : (s : Session) → next s turn.End ≡ 0
+unfolding next needed needs literalAdvance literalIn turnedBy
+next-end s = refl
+
+-- Offered to Ready: silence 200 enters Error, and a charge that is not wanted ends to Idle
+waiting-needs : (s : Session) (st : State) (silent wanted : Bool)
+    → next s (cond silent (turn.Enter Error) (cond wanted (turn.On st) turn.Farewell)) ≤ needs st (s .count) + 1
+waiting-needs s st true wanted = omega (arith, next-error s)
+waiting-needs s st false true = next-on s st
+waiting-needs s st false false = omega (arith, next-farewell s)
+
+-- Stopping and Error end to Idle at count 600
+closing-needs : (s : Session) (st : State) (over : Bool) → next s (cond over turn.End (turn.On st)) ≤ needs st (s .count) + 1
+closing-needs s st true = omega (arith, next-end s)
+closing-needs s st false = next-on s st
+
+module _ (x : Settings) (r : Readings) (c : Cells) (s : Session) where
+  -- Charging goes on or stops
+  phase-needs : (q : Turned) → next s (phaseOn x r c q) ≤ 8 + 1
+  unfolding phaseOn needs
+  phase-needs (turned.On p) = next-on s (Charging p)
+  phase-needs (turned.Stop k) = omega (arith, next-stop x r c s k)
+
+  charging-turn : (q : Turned) (silent wanted above full : Bool)
+      → next s (cond silent (turn.Enter Error)
+      (cond wanted (cond above (stopOf x r c Other) (cond full (stopOf x r c PackVoltage) (phaseOn x r c q))) (stopOf x r c Other)))
+      ≤ 8 + 1
+  charging-turn q true wanted above full = omega (arith, next-error s)
+  charging-turn q false false above full = omega (arith, next-stop x r c s Other)
+  charging-turn q false true true full = omega (arith, next-stop x r c s Other)
+  charging-turn q false true false true = omega (arith, next-stop x r c s PackVoltage)
+  charging-turn q false true false false = phase-needs q
+
+  turn-needs : (st : State) → next s (turnOf x r c st (s .count) (s .silence)) ≤ needs st (s .count) + 1
+  unfolding turnOf waitingOf chargingOf stopsOf phaseTurn stoppingOf errorOf needs
+  turn-needs Idle = next-on s Idle
+  turn-needs Offered = waiting-needs s Offered (leb 200 (s .silence)) (wantedOf r)
+  turn-needs Unverified = waiting-needs s Unverified (leb 200 (s .silence)) (wantedOf r)
+  turn-needs Parameters = waiting-needs s Parameters (leb 200 (s .silence)) (wantedOf r)
+  turn-needs (Ready y most) = waiting-needs s (Ready y most) (leb 200 (s .silence)) (wantedOf r)
+  turn-needs (Charging p) =
+      charging-turn (turnedOf p (cellFull x c)) (leb 200 (s .silence)) (wantedOf r) (aboveOf (r .current) (x .current)) (packFull x r)
+  turn-needs (Stopping k e) = closing-needs s (Stopping k (estThen x r c e)) (leb 600 (s .count))
+  turn-needs Error = closing-needs s Error (leb 600 (s .count))
+
+  -- a tick raises what is needed by one at the most
+  tick-needs : needed (literalTick x r c s) ≤ needed s + 1
+  unfolding needed literalTick next turnIn
+  tick-needs = turn-needs (s .state)
+
+-- ---- any event, any list of events
+paper-needs : (c : Controller) (r : Readings) (v : List ℕ) (t : List ℤ) → needed (paperNext c r v t .session) ≤ needed (c .session) + 1
+unfolding paperNext
+paper-needs c r v t = tick-needs (c .settings) r (cellsOf v t) (c .session)
+
+read-needs : (a : SettingsRead) (c : Controller) → needed (readInto a c .session) ≤ needed (c .session) + 0
+unfolding readInto freshOf needed needs
+read-needs (read.Read x) c = omega arith
+read-needs (read.Refused n) c = omega arith
+
+event-needs : (c : Controller) (e : Event) → needed (after c e .session) ≤ needed (c .session) + cond (ticked e) 1 0
+unfolding after ticked
+event-needs c (Came id s) =
+    let h : needed (frameTo c id s .controller .session) ≤ needed (c .session) = frame-needs c id s (frameTo c id s) (came c id s) in
+    omega (arith, h)
+event-needs c (Beaten r v t old) = go (accepts r v t old)
+  where
+    go : (f : Bool) → needed (cond f (paperNext c r v t) c .session) ≤ needed (c .session) + cond f 1 0
+    go true = paper-needs c r v t
+    go false = omega arith
+event-needs c (Wrote old) = omega arith
+event-needs c (Reread s) = read-needs (readOf s) c
+
+run-needs : (c : Controller) (es : List Event) → needed (afterAll c es .session) ≤ needed (c .session) + ticksIn es
+unfolding afterAll ticksIn
+run-needs c [] = omega arith
+run-needs c (e ∷ es) =
+    let h : needed (afterAll (after c e) es .session) ≤ needed (after c e .session) + ticksIn es = run-needs (after c e) es in
+    omega (arith, h, event-needs c e)
+
+charging-eight : (st : State) (n : ℕ) → isCharging st ≡ true → needs st n ≡ 8
+unfolding isCharging needs
+charging-eight Idle n h = absurd (false≢true h)
+charging-eight Offered n h = absurd (false≢true h)
+charging-eight Unverified n h = absurd (false≢true h)
+charging-eight Parameters n h = absurd (false≢true h)
+charging-eight (Ready y most) n h = absurd (false≢true h)
+charging-eight (Charging p) n h = refl
+charging-eight (Stopping k e) n h = absurd (false≢true h)
+charging-eight Error n h = absurd (false≢true h)
+
+idle-none : (n : ℕ) → needs Idle n ≡ 0
+unfolding needs
+idle-none n = refl
+
+-- from Idle to Charging no fewer than eight accepted ticks, whatever comes in between, and from whom
+pub no-sooner : (c : Controller) (es : List Event)
+    → c .session .state ≡ Idle → isCharging (afterAll c es .session .state) ≡ true → 8 ≤ ticksIn es
+unfolding needed
+no-sooner c es i h =
+    let f : needs (c .session .state) (c .session .count) ≡ 0 =
+    ap (λ (z : State). needs z (c .session .count)) i ∙ idle-none (c .session .count) in
+    let g : needs (afterAll c es .session .state) (afterAll c es .session .count) ≡ 8 =
+    charging-eight (afterAll c es .session .state) (afterAll c es .session .count) h in
+    omega (arith, f, g, run-needs c es)
