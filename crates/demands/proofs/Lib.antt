@@ -19,3 +19,5 @@ pub mod ReachFrames
 pub mod ReachStretches
 pub mod Reach
 pub mod ReachRun
+pub mod SilentFrames
+pub mod SilentRun
