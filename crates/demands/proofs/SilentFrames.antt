@@ -22,6 +22,7 @@ use Rattle.controller.specs.declared.Controller.{Controller}
 use Rattle.controller.specs.Frame.{isIdle, frameTo}
 use Rattle.demands.specs.Apart.{Came, ended, queryIn, isQuery, fromStation}
 use Rattle.demands.specs.Says.{Says}
+use Rattle.demands.specs.Ends.{isStopping}
 use Rattle.demands.specs.Silent.{isCim, feeds, Unheard}
 use Rattle.demands.proofs.Came.{same}
 use Rattle.demands.proofs.ReachFrames.{frame-says, says-one, Spoken, Unsaid, Said, spoken}
@@ -141,16 +142,17 @@ module _ (x : Settings) (source : ℕ) (s : Session) (n : ℕ) where
   fed-error (Cst b) h = absurd (false≢true h)
   fed-error Cem h = refl
 
-  -- one that it heeds returns silence to 0 (in Stopping a CST AA once an EST has gone out: before, it is refused)
-  pub fed-silence : (st : State) (m : ChargeMessage) → ltb 0 n ≡ true → feeds st m ≡ true → sessionAfter source s (outcomeOf x st n m) .silence ≡ 0
-  unfolding feeds outcomeOf silenceAfter
+  -- one that it heeds returns silence to 0; in Stopping once an EST has gone out, since before that a CST AA is refused
+  pub fed-silence : (st : State) (m : ChargeMessage) → (isStopping st ≡ true → ltb 0 n ≡ true) → feeds st m ≡ true
+      → sessionAfter source s (outcomeOf x st n m) .silence ≡ 0
+  unfolding feeds outcomeOf silenceAfter isStopping
   fed-silence Idle m g h = absurd (false≢true h)
   fed-silence Offered m g h = fed-offered m
   fed-silence Unverified m g h = fed-unverified m h
   fed-silence Parameters m g h = fed-parameters m h
   fed-silence (Ready y k) m g h = fed-ready y k m h
   fed-silence (Charging p) m g h = fed-charging p m h
-  fed-silence (Stopping a e) m g h = fed-stopping a e m g h
+  fed-silence (Stopping a e) m g h = fed-stopping a e m (g refl) h
   fed-silence Error m g h = fed-error m h
 
 -- ---- over frames
