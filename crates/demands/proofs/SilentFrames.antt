@@ -1,8 +1,8 @@
 -- What a session heeds is `feeds`, no more and no less: a charge message that does not feed it is refused and leaves it as it was, one that does
 -- returns its silence to 0. So a frame by which its station is unheard leaves the session as it was. Assumes nothing.
 use Prim.Native.Nat.{ℕ}
-use mathlib.Core.Path.{_≡_, refl, ap, sym, _∙_}
-use mathlib.Core.Bool.{Bool, true, false, not, _&&_, false≢true}
+use mathlib.Core.Path.{_≡_, refl, ap, sym, subst, _∙_}
+use mathlib.Core.Bool.{Bool, true, false, _&&_, false≢true}
 use mathlib.Core.List.{List}
 use lib.Dec.{ltb}
 use borrow.Author.Tests.{eq-eqb}
@@ -23,137 +23,133 @@ use Rattle.controller.specs.Frame.{isIdle, frameTo}
 use Rattle.demands.specs.Apart.{Came, ended, queryIn, isQuery, fromStation}
 use Rattle.demands.specs.Says.{Says}
 use Rattle.demands.specs.Ends.{isStopping}
-use Rattle.demands.specs.Silent.{isCim, feeds, Unheard}
+use Rattle.demands.specs.Silent.{feeds, Unheard}
 use Rattle.demands.proofs.Came.{same}
 use Rattle.demands.proofs.ReachFrames.{frame-says, says-one, Spoken, Unsaid, Said, spoken}
 
 -- ---- the table against the outcomes
-only-cim : (m : ChargeMessage) → not (isCim m) ≡ false → m ≡ Cim
-unfolding isCim
-only-cim Cim h = refl
-only-cim (Cvm b) h = absurd (false≢true (sym h))
-only-cim (Cmp o) h = absurd (false≢true (sym h))
-only-cim (Crm b) h = absurd (false≢true (sym h))
-only-cim (Ccs b) h = absurd (false≢true (sym h))
-only-cim (Cst b) h = absurd (false≢true (sym h))
-only-cim Cem h = absurd (false≢true (sym h))
-
--- a message that the session does not heed is refused
-pub unfed-refused : (x : Settings) (n : ℕ) (st : State) (m : ChargeMessage) → isIdle st ≡ false → feeds st m ≡ false → outcomeOf x st n m ≡ Refuse
-unfolding isIdle feeds outcomeOf inUnverified inParameters inReady inCharging inStopping inError
-unfed-refused x n Idle m o h = absurd (false≢true (sym o))
-unfed-refused x n Offered m o h = absurd (false≢true (sym h))
-unfed-refused x n Unverified m o h = rw (only-cim m h)
-unfed-refused x n Parameters m o h = rw (only-cim m h)
-unfed-refused x n (Ready y k) m o h = rw (only-cim m h)
-unfed-refused x n (Charging p) Cim o h = refl
-unfed-refused x n (Charging p) (Cvm b) o h = refl
-unfed-refused x n (Charging p) (Cmp f) o h = refl
-unfed-refused x n (Charging p) (Crm b) o h = refl
-unfed-refused x n (Charging p) (Ccs b) o h = absurd (false≢true (sym h))
-unfed-refused x n (Charging p) (Cst b) o h = absurd (false≢true (sym h))
-unfed-refused x n (Charging p) Cem o h = absurd (false≢true (sym h))
-unfed-refused x n (Stopping a e) Cim o h = refl
-unfed-refused x n (Stopping a e) (Cvm b) o h = refl
-unfed-refused x n (Stopping a e) (Cmp f) o h = refl
-unfed-refused x n (Stopping a e) (Crm b) o h = refl
-unfed-refused x n (Stopping a e) (Ccs b) o h = refl
-unfed-refused x n (Stopping a e) (Cst b) o h = absurd (false≢true (sym h))
-unfed-refused x n (Stopping a e) Cem o h = absurd (false≢true (sym h))
-unfed-refused x n Error Cim o h = refl
-unfed-refused x n Error (Cvm b) o h = refl
-unfed-refused x n Error (Cmp f) o h = refl
-unfed-refused x n Error (Crm b) o h = refl
-unfed-refused x n Error (Ccs b) o h = refl
-unfed-refused x n Error (Cst b) o h = refl
-unfed-refused x n Error Cem o h = absurd (false≢true (sym h))
-
 module _ (x : Settings) (source : ℕ) (s : Session) (n : ℕ) where
   silenceAfter : Outcome → ℕ
   silenceAfter o = sessionAfter source s o .silence
 
-  fed-offered : (m : ChargeMessage) → silenceAfter (inOffered n m) ≡ 0
-  unfolding silenceAfter sessionAfter inOffered
-  fed-offered Cim = refl
-  fed-offered (Cvm b) = same silenceAfter (ltb 0 n) (same silenceAfter b refl refl) refl
-  fed-offered (Cmp o) = refl
-  fed-offered (Crm b) = refl
-  fed-offered (Ccs b) = refl
-  fed-offered (Cst b) = refl
-  fed-offered Cem = refl
+  -- heeded: silence returns to 0; not heeded: refused
+  unfoldable Fits : Bool → Outcome → Type 0
+  Fits true o = silenceAfter o ≡ 0
+  Fits false o = o ≡ Refuse
 
-  fed-unverified : (m : ChargeMessage) → not (isCim m) ≡ true → silenceAfter (inUnverified m) ≡ 0
-  unfolding silenceAfter sessionAfter inUnverified isCim
-  fed-unverified Cim h = absurd (false≢true h)
-  fed-unverified (Cvm b) h = same silenceAfter b refl refl
-  fed-unverified (Cmp o) h = refl
-  fed-unverified (Crm b) h = refl
-  fed-unverified (Ccs b) h = refl
-  fed-unverified (Cst b) h = refl
-  fed-unverified Cem h = refl
+  fits-offered : (m : ChargeMessage) → Fits (feeds Offered m) (inOffered n m)
+  unfolding Fits silenceAfter sessionAfter inOffered feeds
+  fits-offered Cim = refl
+  fits-offered (Cvm b) = same silenceAfter (ltb 0 n) (same silenceAfter b refl refl) refl
+  fits-offered (Cmp o) = refl
+  fits-offered (Crm b) = refl
+  fits-offered (Ccs b) = refl
+  fits-offered (Cst b) = refl
+  fits-offered Cem = refl
 
-  fed-parameters : (m : ChargeMessage) → not (isCim m) ≡ true → silenceAfter (inParameters x n m) ≡ 0
-  unfolding silenceAfter sessionAfter inParameters readyOf isCim
-  fed-parameters Cim h = absurd (false≢true h)
-  fed-parameters (Cvm b) h = same silenceAfter b refl refl
-  fed-parameters (Cmp o) h = same silenceAfter (ltb 5 n) refl refl
-  fed-parameters (Crm b) h = refl
-  fed-parameters (Ccs b) h = refl
-  fed-parameters (Cst b) h = refl
-  fed-parameters Cem h = refl
+  fits-unverified : (m : ChargeMessage) → Fits (feeds Unverified m) (inUnverified m)
+  unfolding Fits silenceAfter sessionAfter inUnverified feeds
+  fits-unverified Cim = refl
+  fits-unverified (Cvm b) = same silenceAfter b refl refl
+  fits-unverified (Cmp o) = refl
+  fits-unverified (Crm b) = refl
+  fits-unverified (Ccs b) = refl
+  fits-unverified (Cst b) = refl
+  fits-unverified Cem = refl
 
-  fed-ready : (y : Bool) (k : ℕ) (m : ChargeMessage) → not (isCim m) ≡ true → silenceAfter (inReady x y k n m) ≡ 0
-  unfolding silenceAfter sessionAfter inReady readyOf crmOf isCim
-  fed-ready y k Cim h = absurd (false≢true h)
-  fed-ready y k (Cvm b) h = refl
-  fed-ready y k (Cmp o) h = refl
-  fed-ready y k (Crm b) h = same silenceAfter (y && ltb 0 n) (same silenceAfter b refl refl) refl
-  fed-ready y k (Ccs b) h = refl
-  fed-ready y k (Cst b) h = refl
-  fed-ready y k Cem h = refl
+  fits-parameters : (m : ChargeMessage) → Fits (feeds Parameters m) (inParameters x n m)
+  unfolding Fits silenceAfter sessionAfter inParameters readyOf feeds
+  fits-parameters Cim = refl
+  fits-parameters (Cvm b) = same silenceAfter b refl refl
+  fits-parameters (Cmp o) = same silenceAfter (ltb 5 n) refl refl
+  fits-parameters (Crm b) = refl
+  fits-parameters (Ccs b) = refl
+  fits-parameters (Cst b) = refl
+  fits-parameters Cem = refl
 
-  fed-charging : (p : Phase) (m : ChargeMessage) → feeds (Charging p) m ≡ true → silenceAfter (inCharging m) ≡ 0
-  unfolding silenceAfter sessionAfter inCharging feeds
-  fed-charging p Cim h = absurd (false≢true h)
-  fed-charging p (Cvm b) h = absurd (false≢true h)
-  fed-charging p (Cmp o) h = absurd (false≢true h)
-  fed-charging p (Crm b) h = absurd (false≢true h)
-  fed-charging p (Ccs b) h = same silenceAfter b refl refl
-  fed-charging p (Cst b) h = refl
-  fed-charging p Cem h = refl
+  fits-ready : (y : Bool) (k : ℕ) (m : ChargeMessage) → Fits (feeds (Ready y k) m) (inReady x y k n m)
+  unfolding Fits silenceAfter sessionAfter inReady readyOf crmOf feeds
+  fits-ready y k Cim = refl
+  fits-ready y k (Cvm b) = refl
+  fits-ready y k (Cmp o) = refl
+  fits-ready y k (Crm b) = same silenceAfter (y && ltb 0 n) (same silenceAfter b refl refl) refl
+  fits-ready y k (Ccs b) = refl
+  fits-ready y k (Cst b) = refl
+  fits-ready y k Cem = refl
 
-  fed-stopping : (a : Bool) (e : Est) (m : ChargeMessage) → ltb 0 n ≡ true → feeds (Stopping a e) m ≡ true → silenceAfter (inStopping e n m) ≡ 0
-  unfolding silenceAfter sessionAfter inStopping feeds
-  fed-stopping a e Cim g h = absurd (false≢true h)
-  fed-stopping a e (Cvm b) g h = absurd (false≢true h)
-  fed-stopping a e (Cmp o) g h = absurd (false≢true h)
-  fed-stopping a e (Crm b) g h = absurd (false≢true h)
-  fed-stopping a e (Ccs b) g h = absurd (false≢true h)
-  fed-stopping a e (Cst b) g h = rw g (same silenceAfter b refl refl)
-  fed-stopping a e Cem g h = refl
+  fits-charging : (p : Phase) (m : ChargeMessage) → Fits (feeds (Charging p) m) (inCharging m)
+  unfolding Fits silenceAfter sessionAfter inCharging feeds
+  fits-charging p Cim = refl
+  fits-charging p (Cvm b) = refl
+  fits-charging p (Cmp o) = refl
+  fits-charging p (Crm b) = refl
+  fits-charging p (Ccs b) = same silenceAfter b refl refl
+  fits-charging p (Cst b) = refl
+  fits-charging p Cem = refl
 
-  fed-error : (m : ChargeMessage) → feeds Error m ≡ true → silenceAfter (inError m) ≡ 0
-  unfolding silenceAfter sessionAfter inError feeds
-  fed-error Cim h = absurd (false≢true h)
-  fed-error (Cvm b) h = absurd (false≢true h)
-  fed-error (Cmp o) h = absurd (false≢true h)
-  fed-error (Crm b) h = absurd (false≢true h)
-  fed-error (Ccs b) h = absurd (false≢true h)
-  fed-error (Cst b) h = absurd (false≢true h)
-  fed-error Cem h = refl
+  -- in Stopping a CST AA is refused until an EST has gone out
+  unfed-stopping : (a : Bool) (e : Est) (m : ChargeMessage) → feeds (Stopping a e) m ≡ false → inStopping e n m ≡ Refuse
+  unfolding inStopping feeds
+  unfed-stopping a e Cim h = refl
+  unfed-stopping a e (Cvm b) h = refl
+  unfed-stopping a e (Cmp o) h = refl
+  unfed-stopping a e (Crm b) h = refl
+  unfed-stopping a e (Ccs b) h = refl
+  unfed-stopping a e (Cst b) h = absurd (false≢true (sym h))
+  unfed-stopping a e Cem h = absurd (false≢true (sym h))
 
-  -- one that it heeds returns silence to 0; in Stopping once an EST has gone out, since before that a CST AA is refused
+  fits-stopping : (a : Bool) (e : Est) (m : ChargeMessage) → ltb 0 n ≡ true → Fits (feeds (Stopping a e) m) (inStopping e n m)
+  unfolding Fits silenceAfter sessionAfter inStopping feeds
+  fits-stopping a e Cim g = refl
+  fits-stopping a e (Cvm b) g = refl
+  fits-stopping a e (Cmp o) g = refl
+  fits-stopping a e (Crm b) g = refl
+  fits-stopping a e (Ccs b) g = refl
+  fits-stopping a e (Cst b) g = rw g (same silenceAfter b refl refl)
+  fits-stopping a e Cem g = refl
+
+  fits-error : (m : ChargeMessage) → Fits (feeds Error m) (inError m)
+  unfolding Fits silenceAfter sessionAfter inError feeds
+  fits-error Cim = refl
+  fits-error (Cvm b) = refl
+  fits-error (Cmp o) = refl
+  fits-error (Crm b) = refl
+  fits-error (Ccs b) = refl
+  fits-error (Cst b) = refl
+  fits-error Cem = refl
+
+  refused-if : {t : Bool} {o : Outcome} → Fits t o → t ≡ false → o ≡ Refuse
+  unfolding Fits
+  refused-if {t} {o} f h = subst (λ (b : Bool). Fits b o) h f
+
+  silence-if : {t : Bool} (o : Outcome) → Fits t o → t ≡ true → silenceAfter o ≡ 0
+  unfolding Fits
+  silence-if {t} o f h = subst (λ (b : Bool). Fits b o) h f
+
+  -- a message that the session does not heed is refused
+  pub unfed-refused : (st : State) (m : ChargeMessage) → isIdle st ≡ false → feeds st m ≡ false → outcomeOf x st n m ≡ Refuse
+  unfolding isIdle outcomeOf
+  unfed-refused Idle m o h = absurd (false≢true (sym o))
+  unfed-refused Offered m o h = refused-if (fits-offered m) h
+  unfed-refused Unverified m o h = refused-if (fits-unverified m) h
+  unfed-refused Parameters m o h = refused-if (fits-parameters m) h
+  unfed-refused (Ready y k) m o h = refused-if (fits-ready y k m) h
+  unfed-refused (Charging p) m o h = refused-if (fits-charging p m) h
+  unfed-refused (Stopping a e) m o h = unfed-stopping a e m h
+  unfed-refused Error m o h = refused-if (fits-error m) h
+
+  -- one that it heeds returns silence to 0; in Stopping once an EST has gone out
   pub fed-silence : (st : State) (m : ChargeMessage) → (isStopping st ≡ true → ltb 0 n ≡ true) → feeds st m ≡ true
       → sessionAfter source s (outcomeOf x st n m) .silence ≡ 0
   unfolding feeds outcomeOf silenceAfter isStopping
   fed-silence Idle m g h = absurd (false≢true h)
-  fed-silence Offered m g h = fed-offered m
-  fed-silence Unverified m g h = fed-unverified m h
-  fed-silence Parameters m g h = fed-parameters m h
-  fed-silence (Ready y k) m g h = fed-ready y k m h
-  fed-silence (Charging p) m g h = fed-charging p m h
-  fed-silence (Stopping a e) m g h = fed-stopping a e m (g refl) h
-  fed-silence Error m g h = fed-error m h
+  fed-silence Offered m g h = silence-if (inOffered n m) (fits-offered m) h
+  fed-silence Unverified m g h = silence-if (inUnverified m) (fits-unverified m) h
+  fed-silence Parameters m g h = silence-if (inParameters x n m) (fits-parameters m) h
+  fed-silence (Ready y k) m g h = silence-if (inReady x y k n m) (fits-ready y k m) h
+  fed-silence (Charging p) m g h = silence-if (inCharging m) (fits-charging p m) h
+  fed-silence (Stopping a e) m g h = silence-if (inStopping e n m) (fits-stopping a e m (g refl)) h
+  fed-silence Error m g h = silence-if (inError m) (fits-error m) h
 
 -- ---- over frames
 -- what the station says in vain leaves the session as it was
@@ -162,7 +158,7 @@ said-in-vain : (c : Controller) (m : ChargeMessage) (id : ℕ) (s : List ℕ) �
 unfolding ended messageOf appliedOf sessionAfter
 said-in-vain c m id s o says h =
     frame-says c m id s says o
-    ∙ ap (sessionAfter (c .session .station) (c .session)) (unfed-refused (c .settings) (c .session .count) (c .session .state) m o h)
+    ∙ ap (sessionAfter (c .session .station) (c .session)) (unfed-refused (c .settings) (c .session .station) (c .session) (c .session .count) (c .session .state) m o h)
 
 unheard-spoken : (c : Controller) (id : ℕ) (s : List ℕ) → ended c ≡ false → Unheard c (Came id s) → Spoken c id s (frameTo c id s)
     → frameTo c id s .controller .session ≡ c .session
@@ -178,7 +174,7 @@ unheard-kept c id s o u = unheard-spoken c id s o u (spoken c id s o)
 -- the paper's two slips: by the CIM of a restarted station in Parameters, and by CRM in Charging, the station is unheard
 pub restarted-unheard : (c : Controller) (id : ℕ) (s : List ℕ) → c .session .state ≡ Parameters
     → Says (c .settings) (c .session .station) Cim id s → Unheard c (Came id s)
-unfolding Unheard feeds isCim
+unfolding Unheard feeds
 restarted-unheard c id s h says m k = rw (h, says-one (c .settings) (c .session .station) m Cim id s k says)
 
 pub crm-unheard : (c : Controller) (id : ℕ) (s : List ℕ) (p : Phase) (b : Bool) → c .session .state ≡ Charging p

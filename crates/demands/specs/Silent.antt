@@ -12,24 +12,33 @@ use Rattle.controller.specs.declared.Controller.{Controller}
 use Rattle.demands.specs.Apart.{Event, Came, Beaten, Wrote, accepts, after, ended, fromStation}
 use Rattle.demands.specs.Says.{Says}
 
-unfoldable pub isCim : ChargeMessage → Bool
-isCim Cim = true
-isCim (Cvm b) = false
-isCim (Cmp o) = false
-isCim (Crm b) = false
-isCim (Ccs b) = false
-isCim (Cst b) = false
-isCim Cem = false
-
 -- Which charge messages of its station a session heeds, by its state (01, "Session by message", and number 11). In Offered every one, the CIM that
 -- does nothing and those out of step too; from there to Ready every one, "unless it is a CIM"; in Charging "only CCS", and CST and CEM, by which it
 -- leaves Charging; in Stopping CST and CEM; in Error CEM. In Idle there is no session. All others are silence
 unfoldable pub feeds : State → ChargeMessage → Bool
 feeds Idle m = false
 feeds Offered m = true
-feeds Unverified m = not (isCim m)
-feeds Parameters m = not (isCim m)
-feeds (Ready accepted most) m = not (isCim m)
+feeds Unverified Cim = false
+feeds Unverified (Cvm b) = true
+feeds Unverified (Cmp o) = true
+feeds Unverified (Crm b) = true
+feeds Unverified (Ccs b) = true
+feeds Unverified (Cst b) = true
+feeds Unverified Cem = true
+feeds Parameters Cim = false
+feeds Parameters (Cvm b) = true
+feeds Parameters (Cmp o) = true
+feeds Parameters (Crm b) = true
+feeds Parameters (Ccs b) = true
+feeds Parameters (Cst b) = true
+feeds Parameters Cem = true
+feeds (Ready accepted most) Cim = false
+feeds (Ready accepted most) (Cvm b) = true
+feeds (Ready accepted most) (Cmp o) = true
+feeds (Ready accepted most) (Crm b) = true
+feeds (Ready accepted most) (Ccs b) = true
+feeds (Ready accepted most) (Cst b) = true
+feeds (Ready accepted most) Cem = true
 feeds (Charging p) Cim = false
 feeds (Charging p) (Cvm b) = false
 feeds (Charging p) (Cmp o) = false
