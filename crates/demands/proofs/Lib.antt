@@ -21,3 +21,4 @@ pub mod Reach
 pub mod ReachRun
 pub mod SilentFrames
 pub mod SilentRun
+pub mod SilentSlips

@@ -25,7 +25,7 @@ use Rattle.demands.specs.Says.{Says}
 use Rattle.demands.specs.Ends.{isStopping}
 use Rattle.demands.specs.Silent.{feeds, Unheard}
 use Rattle.demands.proofs.Came.{same}
-use Rattle.demands.proofs.ReachFrames.{frame-says, says-one, Spoken, Unsaid, Said, spoken}
+use Rattle.demands.proofs.ReachFrames.{frame-says, Spoken, Unsaid, Said, spoken}
 
 -- ---- the table against the outcomes
 module _ (x : Settings) (source : ℕ) (s : Session) (n : ℕ) where
@@ -170,17 +170,6 @@ unheard-spoken c id s o u (Said m says) = said-in-vain c m id s o says (u m says
 pub unheard-kept : (c : Controller) (id : ℕ) (s : List ℕ) → ended c ≡ false → Unheard c (Came id s)
     → frameTo c id s .controller .session ≡ c .session
 unheard-kept c id s o u = unheard-spoken c id s o u (spoken c id s o)
-
--- the paper's two slips: by the CIM of a restarted station in Parameters, and by CRM in Charging, the station is unheard
-pub restarted-unheard : (c : Controller) (id : ℕ) (s : List ℕ) → c .session .state ≡ Parameters
-    → Says (c .settings) (c .session .station) Cim id s → Unheard c (Came id s)
-unfolding Unheard feeds
-restarted-unheard c id s h says m k = rw (h, says-one (c .settings) (c .session .station) m Cim id s k says)
-
-pub crm-unheard : (c : Controller) (id : ℕ) (s : List ℕ) (p : Phase) (b : Bool) → c .session .state ≡ Charging p
-    → Says (c .settings) (c .session .station) (Crm b) id s → Unheard c (Came id s)
-unfolding Unheard feeds
-crm-unheard c id s p b h says m k = rw (h, says-one (c .settings) (c .session .station) m (Crm b) id s k says)
 
 -- ---- a station that sends nothing
 -- by what it says the station is the source of a frame, and the frame is no query

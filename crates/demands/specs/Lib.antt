@@ -9,6 +9,7 @@ pub mod Stops
 pub mod Apart
 pub mod Gone
 pub mod Silent
+pub mod SilentSlips
 pub mod Unmoved
 pub mod Since
 pub mod Reach
