@@ -158,7 +158,8 @@ said-in-vain : (c : Controller) (m : ChargeMessage) (id : ℕ) (s : List ℕ) �
 unfolding ended messageOf appliedOf sessionAfter
 said-in-vain c m id s o says h =
     frame-says c m id s says o
-    ∙ ap (sessionAfter (c .session .station) (c .session)) (unfed-refused (c .settings) (c .session .station) (c .session) (c .session .count) (c .session .state) m o h)
+    ∙ ap (sessionAfter (c .session .station) (c .session))
+    (unfed-refused (c .settings) (c .session .station) (c .session) (c .session .count) (c .session .state) m o h)
 
 unheard-spoken : (c : Controller) (id : ℕ) (s : List ℕ) → ended c ≡ false → Unheard c (Came id s) → Spoken c id s (frameTo c id s)
     → frameTo c id s .controller .session ≡ c .session
