@@ -20,3 +20,6 @@ pub mod ReachStretches
 pub mod Reach
 pub mod ReachLeast
 pub mod ReachRun
+pub mod SilentFrames
+pub mod SilentRun
+pub mod SilentSlips

@@ -1,5 +1,5 @@
--- A session whose station falls silent ends within 801 accepted ticks (01, "What a reader can rely on"), whatever other addresses send; and 800 are
--- not enough. Assumes nothing.
+-- A session whose station falls silent ends within 801 accepted ticks (01, "What a reader can rely on"), whatever other addresses send, and whatever
+-- the station sends that the session does not heed; and what it takes to live through 800 (proofs/SilentRun.antt has such a run). Assumes nothing.
 use Prim.Native.Nat.{ℕ, zero, suc, _+_, _-_, _≤_, _<_}
 use native.Mathlib.Omega.{arith}
 use mathlib.Core.Path.{_≡_, refl, ap, sym, subst, _∙_}
@@ -35,15 +35,15 @@ use Rattle.session.specs.declared.Session.{Session}
 use Rattle.session.specs.Tick.{turnedBy, turnIn}
 use Rattle.literal.specs.Literal.{grown, counted, literalIn, literalAdvance, literalTick}
 use Rattle.controller.specs.declared.Controller.{Controller}
-use Rattle.controller.specs.Frame.{isIdle}
+use Rattle.controller.specs.Frame.{isIdle, frameTo}
 use Rattle.controller.specs.Tick.{tickNumber}
 use Rattle.demands.specs.Machine.{paperNext}
-use Rattle.demands.specs.Apart.{Event, Came, Beaten, Wrote, Reread, accepts, readInto, after, ended, fromStation, reaches}
-use Rattle.demands.specs.Silent.{quietAt, silent, ticked, ticksIn, endsWithin, repeated, EndsBy, longest}
-use Rattle.demands.specs.Over.{openedWith}
+use Rattle.demands.specs.Apart.{Event, Came, Beaten, Wrote, Reread, accepts, readInto, after, ended, fromStation}
+use Rattle.demands.specs.Silent.{Unheard, Silence, quietAt, sendsNothing, ticked, ticksIn, endsWithin, repeated, EndsBy, longest}
 use Rattle.demands.proofs.Tests.{or-false}
 use Rattle.demands.proofs.Messages.{mk}
-use Rattle.demands.proofs.Apart.{unreached, kept-open}
+use Rattle.demands.proofs.Apart.{kept-open}
+use Rattle.demands.proofs.SilentFrames.{unheard-kept, still-unheard}
 
 -- the ticks that a silent session has left, at most
 leftIn : State → ℕ → ℕ → ℕ
@@ -206,18 +206,16 @@ unfolding readInto freshOf left leftIn
 read-falls (read.Read x) c = omega arith
 read-falls (read.Refused n) c = omega arith
 
--- one event of a silent station's: if accepted tick, less is left, else no more
-event-falls : (c : Controller) (e : Event) → ended c ≡ false → quietAt (c .session .station) e ≡ true
-    → cond (ticked e) 1 0 + left (after c e .session) ≤ left (c .session)
-unfolding quietAt ticked after reaches
-event-falls c (Came id s) o q =
-    same (after c (Came id s) .session) (unreached c (Came id s) o (quiet-unheard (fromStation (c .session .station) id) q) .session)
+-- one event by which the station is unheard: if an accepted tick, less is left, else no more
+event-falls : (c : Controller) (e : Event) → ended c ≡ false → Unheard c e → cond (ticked e) 1 0 + left (after c e .session) ≤ left (c .session)
+unfolding ticked after
+event-falls c (Came id s) o u = same (frameTo c id s .controller .session) (unheard-kept c id s o u)
   where
     same : (z : Session) → z ≡ c .session → 0 + left z ≤ left (c .session)
     same z h = subst (λ (y : Session). 0 + left z ≤ left y) h (omega arith)
-event-falls c (Beaten r v t old) o q = tick-falls c r v t (accepts r v t old) o
-event-falls c (Wrote old) o q = omega arith
-event-falls c (Reread s) o q = read-falls (readOf s) c
+event-falls c (Beaten r v t old) o u = tick-falls c r v t (accepts r v t old) o
+event-falls c (Wrote old) o u = omega arith
+event-falls c (Reread s) o u = read-falls (readOf s) c
 
 some-left : (c : Controller) → ended c ≡ false → 0 < left (c .session)
 unfolding ended left
@@ -231,20 +229,37 @@ none-left : (t : Bool) → (t ≡ false → false ≡ true) → t ≡ true
 none-left true f = refl
 none-left false f = f refl
 
-spent : (st : ℕ) (es : List Event) (c : Controller) → (ended c ≡ false → c .session .station ≡ st) → silent st es ≡ true
-    → left (c .session) ≤ ticksIn es → endsWithin c es ≡ true
-unfolding endsWithin ticksIn silent
-spent st [] c k q h = none-left (ended c) (λ o. absurd (omega (arith, some-left c o)))
-spent st (e ∷ es) c k q h =
+spent : (es : List Event) (c : Controller) → Silence c es → left (c .session) ≤ ticksIn es → endsWithin c es ≡ true
+unfolding endsWithin ticksIn Silence
+spent [] c q h = none-left (ended c) (λ o. absurd (omega (arith, some-left c o)))
+spent (e ∷ es) c q h =
     either (ended c) (endsWithin (after c e) es)
-    (λ o. spent st es (after c e) (λ p. kept-open c e o p ∙ k o) (and-right (quietAt st e) (silent st es) q)
-    (omega (arith, event-falls c e o (ap (λ (z : ℕ). quietAt z e) (k o) ∙ and-left (quietAt st e) (silent st es) q))))
+    (λ o. spent es (after c e) (q o .1) (omega (arith, event-falls c e o (q o .0))))
 
 -- a session whose station falls silent ends within 801 accepted ticks
 pub within-801 : EndsBy longest
 unfolding left
-within-801 c es q h =
-    spent (c .session .station) es c (λ o. refl) q (omega (arith, most (c .session .state) (c .session .silence) (c .session .count)))
+within-801 c es q h = spent es c q (omega (arith, most (c .session .state) (c .session .silence) (c .session .count)))
+
+-- ---- a station that sends nothing is silent
+still-event : (c : Controller) (e : Event) → quietAt (c .session .station) e ≡ true → Unheard c e
+unfolding quietAt Unheard
+still-event c (Came id s) q = still-unheard c id s (quiet-unheard (fromStation (c .session .station) id) q)
+still-event c (Beaten r v t old) q = tt
+still-event c (Wrote old) q = tt
+still-event c (Reread s) q = tt
+
+still : (st : ℕ) (es : List Event) (c : Controller) → (ended c ≡ false → c .session .station ≡ st) → sendsNothing st es ≡ true → Silence c es
+unfolding sendsNothing Silence
+still st [] c k q = tt
+still st (e ∷ es) c k q = λ o. (
+  still-event c e (ap (λ (z : ℕ). quietAt z e) (k o) ∙ and-left (quietAt st e) (sendsNothing st es) q),
+  still st es (after c e) (λ p. kept-open c e o p ∙ k o) (and-right (quietAt st e) (sendsNothing st es) q),
+)
+
+-- so what `within-801` says holds of a station that is still, whatever it and others send once the session has ended
+pub silent-station : (c : Controller) (es : List Event) → sendsNothing (c .session .station) es ≡ true → Silence c es
+silent-station c es q = still (c .session .station) es c (λ o. refl) q
 
 -- ---- and 800 are not enough
 module _ (x : Settings) (r : Readings) (c : Cells) (a b n : ℕ) where
@@ -325,24 +340,3 @@ quietReadings =
 pub such-a-tick : (accepts quietReadings (330 ∷ []) (pos 20 ∷ []) (zeros 117) ≡ true) × (wantedOf quietReadings ≡ true)
 unfolding quietReadings zeros accepts tickNumber inRange wantedOf currentOk every
 such-a-tick = (refl, refl)
-
--- so there is a run of 800 accepted ticks that a session with a silent station lives through: CIM is taken, and then nothing is heard
-repeats-silent : (st n : ℕ) (r : Readings) (v : List ℕ) (t : List ℤ) (old : List ℕ) → silent st (repeated n (Beaten r v t old)) ≡ true
-unfolding silent repeated quietAt
-repeats-silent st zero r v t old = refl
-repeats-silent st (suc n) r v t old = repeats-silent st n r v t old
-
-repeats-tick : (n : ℕ) (r : Readings) (v : List ℕ) (t : List ℤ) (old : List ℕ) → accepts r v t old ≡ true → ticksIn (repeated n (Beaten r v t old)) ≡ n
-unfolding ticksIn repeated ticked
-repeats-tick zero r v t old h = refl
-repeats-tick (suc n) r v t old h = rw (h, repeats-tick n r v t old h) (omega arith)
-
--- any controller whose session has just been opened
-pub eight-hundred-are-not-enough : (c : Controller) → c .session ≡ openedWith (c .session .station) → EndsBy 800 → ⊥
-eight-hundred-are-not-enough c o h =
-    let such = such-a-tick in
-    let run : List Event = repeated 800 (Beaten quietReadings (330 ∷ []) (pos 20 ∷ []) (zeros 117)) in
-    let n : ticksIn run ≡ 800 = repeats-tick 800 quietReadings (330 ∷ []) (pos 20 ∷ []) (zeros 117) (such .0) in
-    false≢true
-    (sym (not-within-800 quietReadings (330 ∷ []) (pos 20 ∷ []) (zeros 117) (such .0) (such .1) c (c .session .station) 0 o)
-    ∙ h c run (repeats-silent (c .session .station) 800 quietReadings (330 ∷ []) (pos 20 ∷ []) (zeros 117)) (omega (arith, n)))

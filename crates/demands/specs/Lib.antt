@@ -10,6 +10,7 @@ pub mod Stops
 pub mod Apart
 pub mod Gone
 pub mod Silent
+pub mod SilentSlips
 pub mod Unmoved
 pub mod Since
 pub mod Reach

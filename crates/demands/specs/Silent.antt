@@ -1,21 +1,90 @@
--- A session whose station falls silent ends within 801 accepted ticks (01, "What a reader can rely on").
+-- A session whose station falls silent ends within 801 accepted ticks (01, "What a reader can rely on"). Silence is the paper's: the station need
+-- not be still, it says nothing that the session heeds.
 use Prim.Native.Nat.{ℕ, zero, suc, _+_, _≤_}
 use mathlib.Core.Path.{_≡_}
 use mathlib.Core.Bool.{Bool, true, false, not, cond, _&&_, _||_}
 use mathlib.Core.List.{List, [], _∷_}
+use Rattle.charge_messages.specs.declared.ChargeMessage.{ChargeMessage}
+use Rattle.charge_messages.specs.declared.ChargeMessage.the-variants.{Cim, Cvm, Cmp, Crm, Ccs, Cst, Cem}
+use Rattle.states.specs.declared.State.{State}
+use Rattle.states.specs.declared.State.the-variants.{Idle, Offered, Unverified, Parameters, Ready, Charging, Stopping, Error}
 use Rattle.controller.specs.declared.Controller.{Controller}
 use Rattle.demands.specs.Apart.{Event, Came, Beaten, Wrote, Reread, accepts, after, ended, fromStation}
+use Rattle.demands.specs.Says.{Says}
 
--- no frame of the station `st` comes, but for its cell queries
+-- Which charge messages of its station a session heeds, by its state (01, "Session by message", and number 11). In Offered every one, the CIM that
+-- does nothing and those out of step too; from there to Ready every one, "unless it is a CIM"; in Charging "only CCS", and CST and CEM, by which it
+-- leaves Charging; in Stopping CST and CEM; in Error CEM. In Idle there is no session. All others are silence
+unfoldable pub feeds : State → ChargeMessage → Bool
+feeds Idle m = false
+feeds Offered m = true
+feeds Unverified Cim = false
+feeds Unverified (Cvm b) = true
+feeds Unverified (Cmp o) = true
+feeds Unverified (Crm b) = true
+feeds Unverified (Ccs b) = true
+feeds Unverified (Cst b) = true
+feeds Unverified Cem = true
+feeds Parameters Cim = false
+feeds Parameters (Cvm b) = true
+feeds Parameters (Cmp o) = true
+feeds Parameters (Crm b) = true
+feeds Parameters (Ccs b) = true
+feeds Parameters (Cst b) = true
+feeds Parameters Cem = true
+feeds (Ready accepted most) Cim = false
+feeds (Ready accepted most) (Cvm b) = true
+feeds (Ready accepted most) (Cmp o) = true
+feeds (Ready accepted most) (Crm b) = true
+feeds (Ready accepted most) (Ccs b) = true
+feeds (Ready accepted most) (Cst b) = true
+feeds (Ready accepted most) Cem = true
+feeds (Charging p) Cim = false
+feeds (Charging p) (Cvm b) = false
+feeds (Charging p) (Cmp o) = false
+feeds (Charging p) (Crm b) = false
+feeds (Charging p) (Ccs b) = true
+feeds (Charging p) (Cst b) = true
+feeds (Charging p) Cem = true
+feeds (Stopping acknowledged est) Cim = false
+feeds (Stopping acknowledged est) (Cvm b) = false
+feeds (Stopping acknowledged est) (Cmp o) = false
+feeds (Stopping acknowledged est) (Crm b) = false
+feeds (Stopping acknowledged est) (Ccs b) = false
+feeds (Stopping acknowledged est) (Cst b) = true
+feeds (Stopping acknowledged est) Cem = true
+feeds Error Cim = false
+feeds Error (Cvm b) = false
+feeds Error (Cmp o) = false
+feeds Error (Crm b) = false
+feeds Error (Ccs b) = false
+feeds Error (Cst b) = false
+feeds Error Cem = true
+
+-- an event by which the session's station says nothing that the session heeds. By another's frame, a cell query, and a frame that 3 to 10 refuse, it
+-- says nothing at all
+unfoldable pub Unheard : Controller → Event → Type 0
+Unheard c (Came id s) =
+    (m : ChargeMessage) → Says (c .settings) (c .session .station) m id s → feeds (c .session .state) m ≡ false
+Unheard c (Beaten r v t old) = Unit {0}
+Unheard c (Wrote old) = Unit {0}
+Unheard c (Reread s) = Unit {0}
+
+-- as long as there is a session, its station is unheard
+unfoldable pub Silence : Controller → List Event → Type 0
+Silence c [] = Unit {0}
+Silence c (e ∷ es) = ended c ≡ false → Unheard c e × Silence (after c e) es
+
+-- a station that falls still altogether: no frame has `st` as its source part, but for cell queries
 unfoldable pub quietAt : ℕ → Event → Bool
 quietAt st (Came id s) = not (fromStation st id)
 quietAt st (Beaten r v t old) = true
 quietAt st (Wrote old) = true
 quietAt st (Reread s) = true
 
-unfoldable pub silent : ℕ → List Event → Bool
-silent st [] = true
-silent st (e ∷ es) = quietAt st e && silent st es
+unfoldable pub sendsNothing : ℕ → List Event → Bool
+sendsNothing st [] = true
+sendsNothing st (e ∷ es) = quietAt st e && sendsNothing st es
 
 -- the ticks that are accepted
 unfoldable pub ticked : Event → Bool
@@ -40,7 +109,7 @@ repeated (suc n) e = e ∷ repeated n e
 
 -- a session whose station falls silent has ended by so many accepted ticks, whatever others send
 abbrev pub EndsBy : ℕ → Type 0
-EndsBy n = (c : Controller) (es : List Event) → silent (c .session .station) es ≡ true → n ≤ ticksIn es → endsWithin c es ≡ true
+EndsBy n = (c : Controller) (es : List Event) → Silence c es → n ≤ ticksIn es → endsWithin c es ≡ true
 
 -- "within 801 accepted ticks"
 abbrev pub longest : ℕ

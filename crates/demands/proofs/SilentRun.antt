@@ -1,0 +1,82 @@
+-- 800 accepted ticks are not enough for a session whose station falls silent: a run from a fresh controller, by the CIM of the station 56 to us, F4,
+-- and 800 ticks at which charge is wanted and nothing comes. Assumes nothing.
+use Prim.Native.Nat.{ℕ, zero, suc}
+use native.Mathlib.Omega.{arith}
+use mathlib.Core.Path.{_≡_, refl, sym, _∙_}
+use mathlib.Core.Bool.{true, false, false≢true}
+use mathlib.Core.List.{List, [], _∷_}
+use lib.IntN.{pos}
+use Rattle.messages.specs.Identifier.{partsOf}
+use Rattle.settings.specs.declared.Settings.{Settings}
+use Rattle.settings.specs.Range.{within, goodStations, inRange}
+use Rattle.charge_messages.specs.declared.ChargeMessage.the-variants.{Cim}
+use Rattle.charge_messages.specs.Content.{contentOf}
+use Rattle.controller.specs.declared.Controller.{Controller}
+use Rattle.controller.specs.Start.{freshOf}
+use Rattle.controller.specs.Frame.{notCan, flagsSet, notForUs, badSource, listed}
+use Rattle.demands.specs.Apart.{Event, Came, Beaten, after}
+use Rattle.demands.specs.Silent.{Unheard, Silence, ticked, ticksIn, endsWithin, repeated, EndsBy}
+use Rattle.demands.specs.Says.{Says}
+use Rattle.demands.specs.Over.{openedWith}
+use Rattle.demands.proofs.Silent.{zeros, quietReadings, such-a-tick, not-within-800}
+use Rattle.demands.proofs.Reach.{cim-opens}
+
+-- ---- a fresh controller, and the CIM that opens its session
+-- settings that a record may hold: 60.0 V and 100.0 A at the most, station 56
+abbrev ours : Settings
+ours =
+    record {
+      own = 0xf4;
+      cell = record { 0 = 365 };
+      current = 1000;
+      pack = record { 0 = 600 };
+      temperature = 180;
+      stations = record { count = 1; first = 0x56; second = 0; third = 0; fourth = 0 };
+      versions = record { first = 0; second = 0; third = 0; fourth = 0; fifth = 0 };
+    }
+
+settings-good : inRange ours ≡ true
+unfolding inRange within goodStations
+settings-good = refl
+
+abbrev cimData : List ℕ
+cimData = 0x01 ∷ 0x01 ∷ 0x00 ∷ []
+
+is-listed : listed 0x56 (ours .stations) ≡ true
+unfolding listed
+is-listed = refl
+
+says-cim : Says ours 0x56 Cim 0x1826_f456 cimData
+unfolding notCan flagsSet notForUs badSource partsOf contentOf
+says-cim = record { can = refl; flags = refl; target = refl; other = refl; source = refl; pf = refl; long = refl; content = refl }
+
+abbrev pub opened : Controller
+opened = after (freshOf ours) (Came 0x1826_f456 cimData)
+
+just-opened : opened .session ≡ openedWith 0x56
+unfolding freshOf
+just-opened = cim-opens (freshOf ours) 0x56 0x1826_f456 cimData refl is-listed says-cim
+
+-- ---- 800 ticks
+abbrev tick : Event
+tick = Beaten quietReadings (330 ∷ []) (pos 20 ∷ []) (zeros 117)
+
+ticks-silent : (n : ℕ) (c : Controller) → Silence c (repeated n tick)
+unfolding Silence Unheard repeated
+ticks-silent zero c = tt
+ticks-silent (suc n) c = λ o. (tt, ticks-silent n (after c tick))
+
+ticks-many : (n : ℕ) → ticksIn (repeated n tick) ≡ n
+unfolding ticksIn repeated ticked
+ticks-many zero = refl
+ticks-many (suc n) = rw (such-a-tick .0, ticks-many n) (omega arith)
+
+-- the session that the CIM opened lives through them
+pub lives-through : endsWithin opened (repeated 800 tick) ≡ false
+lives-through =
+    not-within-800 quietReadings (330 ∷ []) (pos 20 ∷ []) (zeros 117) (such-a-tick .0) (such-a-tick .1) opened 0x56 0 just-opened
+
+pub eight-hundred-are-not-enough : EndsBy 800 → ⊥
+eight-hundred-are-not-enough h =
+    let n : ticksIn (repeated 800 tick) ≡ 800 = ticks-many 800 in
+    false≢true (sym lives-through ∙ h opened (repeated 800 tick) (ticks-silent 800 opened) (omega (arith, n)))

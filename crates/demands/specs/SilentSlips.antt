@@ -1,0 +1,38 @@
+-- Two slips to shut out (01): "letting CRM feed the silence count in Charging, or a restarted station's CIM hold a session open in Parameters". The
+-- vocabulary of proofs/SilentSlips.antt.
+use Prim.Native.Nat.{ℕ}
+use mathlib.Core.Path.{_≡_}
+use mathlib.Core.Bool.{Bool, true, false}
+use mathlib.Core.List.{List, [], _∷_}
+use Rattle.settings.specs.declared.Settings.{Settings}
+use Rattle.charge_messages.specs.declared.ChargeMessage.{ChargeMessage}
+use Rattle.charge_messages.specs.declared.ChargeMessage.the-variants.{Cim, Cvm, Cmp, Crm, Ccs, Cst, Cem}
+use Rattle.demands.specs.Apart.{Event, Came, Beaten, Wrote, Reread}
+use Rattle.demands.specs.Says.{Says}
+
+unfoldable pub isCim : ChargeMessage → Bool
+isCim Cim = true
+isCim (Cvm b) = false
+isCim (Cmp o) = false
+isCim (Crm b) = false
+isCim (Ccs b) = false
+isCim (Cst b) = false
+isCim Cem = false
+
+-- what comes before Charging: CIM, CVM, CMP, CRM
+unfoldable pub isHandshake : ChargeMessage → Bool
+isHandshake Cim = true
+isHandshake (Cvm b) = true
+isHandshake (Cmp o) = true
+isHandshake (Crm b) = true
+isHandshake (Ccs b) = false
+isHandshake (Cst b) = false
+isHandshake Cem = false
+
+-- over a list of events the station `st` says these charge messages and no others, as often as it likes
+unfoldable pub SaysOnly : (ChargeMessage → Bool) → Settings → ℕ → List Event → Type 0
+SaysOnly these x st [] = Unit {0}
+SaysOnly these x st (Came id s ∷ es) = ((m : ChargeMessage) → Says x st m id s → these m ≡ true) × SaysOnly these x st es
+SaysOnly these x st (Beaten r v t old ∷ es) = SaysOnly these x st es
+SaysOnly these x st (Wrote old ∷ es) = SaysOnly these x st es
+SaysOnly these x st (Reread s ∷ es) = SaysOnly these x st es
