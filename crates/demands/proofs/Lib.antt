@@ -21,5 +21,5 @@ pub mod Reach
 pub mod ReachLeast
 pub mod ReachRun
 pub mod SilentFrames
-pub mod SilentRun
 pub mod SilentSlips
+pub mod SilentRun

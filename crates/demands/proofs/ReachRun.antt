@@ -26,7 +26,7 @@ use Rattle.demands.proofs.Reach.{from-cim-to-charging}
 use Rattle.demands.proofs.ReachFrames.{says-one}
 
 -- settings that a record may hold: 60.0 V and 100.0 A at the most, stations 56 and 57
-abbrev ours : Settings
+abbrev pub ours : Settings
 ours =
     record {
       own = 0xf4;
@@ -49,7 +49,7 @@ offer = record { highest = record { 0 = 1000 }; lowest = record { 0 = 0 }; most 
 abbrev lowOffer : Offer
 lowOffer = record { highest = record { 0 = 500 }; lowest = record { 0 = 0 }; most = 2000; least = 4000 }
 
-abbrev cimData : List ℕ
+abbrev pub cimData : List ℕ
 cimData = 0x01 ∷ 0x01 ∷ 0x00 ∷ []
 
 abbrev cmpData : List ℕ
@@ -66,12 +66,12 @@ low-refused : acceptedOf ours lowOffer ≡ false
 unfolding acceptedOf
 low-refused = refl
 
-is-listed : listed 0x56 (ours .stations) ≡ true
+pub is-listed : listed 0x56 (ours .stations) ≡ true
 unfolding listed
 is-listed = refl
 
 -- ---- the frames say what they are to say
-says-cim : Says ours 0x56 Cim 0x1826_f456 cimData
+pub says-cim : Says ours 0x56 Cim 0x1826_f456 cimData
 unfolding notCan flagsSet notForUs badSource partsOf contentOf
 says-cim = record { can = refl; flags = refl; target = refl; other = refl; source = refl; pf = refl; long = refl; content = refl }
 

@@ -20,36 +20,9 @@ use Rattle.demands.specs.Says.{Says}
 use Rattle.demands.specs.Over.{openedWith}
 use Rattle.demands.proofs.Silent.{zeros, quietReadings, such-a-tick, not-within-800}
 use Rattle.demands.proofs.Reach.{cim-opens}
+use Rattle.demands.proofs.ReachRun.{ours, is-listed, cimData, says-cim}
 
 -- ---- a fresh controller, and the CIM that opens its session
--- settings that a record may hold: 60.0 V and 100.0 A at the most, station 56
-abbrev ours : Settings
-ours =
-    record {
-      own = 0xf4;
-      cell = record { 0 = 365 };
-      current = 1000;
-      pack = record { 0 = 600 };
-      temperature = 180;
-      stations = record { count = 1; first = 0x56; second = 0; third = 0; fourth = 0 };
-      versions = record { first = 0; second = 0; third = 0; fourth = 0; fifth = 0 };
-    }
-
-settings-good : inRange ours ≡ true
-unfolding inRange within goodStations
-settings-good = refl
-
-abbrev cimData : List ℕ
-cimData = 0x01 ∷ 0x01 ∷ 0x00 ∷ []
-
-is-listed : listed 0x56 (ours .stations) ≡ true
-unfolding listed
-is-listed = refl
-
-says-cim : Says ours 0x56 Cim 0x1826_f456 cimData
-unfolding notCan flagsSet notForUs badSource partsOf contentOf
-says-cim = record { can = refl; flags = refl; target = refl; other = refl; source = refl; pf = refl; long = refl; content = refl }
-
 abbrev pub opened : Controller
 opened = after (freshOf ours) (Came 0x1826_f456 cimData)
 
