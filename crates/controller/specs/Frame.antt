@@ -1,5 +1,6 @@
 -- A received frame: 01, "Numbers returned", 3 to 13. Checks run in numeric order; a refusal alters nothing but as noted at 11.
 use Prim.Native.Nat.{ℕ}
+use mathlib.Core.Path.{_≡_}
 use mathlib.Core.Bool.{Bool, true, false, not, cond, _||_}
 use mathlib.Core.List.{List}
 use lib.Dec.{eqb, leb, ltb}
@@ -115,3 +116,7 @@ frameTo c id s =
     (cond (notForUs (c .settings .own) (partsOf id)) (refused 5 c)
     (cond (badSource (c .settings .own) (partsOf id)) (refused 6 c)
     (knownTo c (partsOf id .source) (recognizedOf (partsOf id .pf)) s))))
+
+-- a received frame's whole outcome: the number and the controller after it. It is lent no buffer that it could change
+abbrev pub FrameIs : Controller → ℕ → List ℕ → Answer → Type 0
+FrameIs c id s a = a ≡ frameTo c id s

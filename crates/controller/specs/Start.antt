@@ -1,10 +1,11 @@
 -- A settings record makes a controller (01, "What the box does").
 use Prim.Native.Nat.{ℕ}
+use mathlib.Core.Path.{_≡_}
 use mathlib.Core.List.{List, []}
 use Rattle.settings.specs.declared.Settings.{Settings}
 use Rattle.settings.specs.declared.SettingsRead.{SettingsRead}
 use Rattle.settings.specs.declared.SettingsRead.the-variants as read
-use Rattle.settings.specs.Read.{readOf}
+use Rattle.settings.specs.Read.{readOf, recordNumber}
 use Rattle.session.specs.Message.{idleSession}
 use Rattle.broadcasts.specs.Beat.{firstBeat}
 use Rattle.queries.specs.Waiting.{queriesOf}
@@ -28,3 +29,7 @@ startWith (read.Refused n) = Refused n
 
 unfoldable pub startOf : List ℕ → Start
 startOf s = startWith (readOf s)
+
+-- a reading's whole outcome: its number, and the controller or none. It is lent no buffer that it could change
+abbrev pub ReadIs : List ℕ → Start → Type 0
+ReadIs s a = (startNumber a ≡ recordNumber s) × (a ≡ startOf s)

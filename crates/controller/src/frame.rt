@@ -1,6 +1,6 @@
 // A received frame (01, "Numbers returned", 3 to 13, in numeric order).
 ghost use mathlib.Core.Path.{_≡_};
-ghost use Rattle.controller.specs.Frame.{isIdle, listed, mayCharge, refused, withSession, contentTaken, chargeTo, kindOf, queryTo, messageTo, knownTo, notCan, flagsSet, notForUs, badSource, frameTo};
+ghost use Rattle.controller.specs.Frame.{isIdle, listed, mayCharge, refused, withSession, contentTaken, chargeTo, kindOf, queryTo, messageTo, knownTo, notCan, flagsSet, notForUs, badSource, FrameIs};
 use crate::Answer;
 use crate::Controller;
 use charge_messages::Content;
@@ -183,7 +183,7 @@ impl Controller {
 
     // ENTRY POINT. Any identifier, any data of any length, any controller.
     pub fn frame(self, id: u32, bytes: &[u8]) -> Answer
-        ensures { λ r. ⌜ r ≡ frameTo self id (now (bytes .entry)) ⌝ }
+        ensures { λ r. ⌜ FrameIs self id (now (bytes .entry)) r ⌝ }
     {
         if not_can(id, bytes) {
             return self.refused(3);

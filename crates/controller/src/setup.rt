@@ -1,8 +1,7 @@
 // Settings read and written (01, "What the box does", "Settings record").
 ghost use mathlib.Core.Path.{_≡_};
-ghost use Rattle.settings.specs.Read.{recordNumber};
 ghost use Rattle.settings.specs.Write.{Wrote};
-ghost use Rattle.controller.specs.Start.{startNumber, freshOf, startOf};
+ghost use Rattle.controller.specs.Start.{freshOf, ReadIs};
 use crate::Controller;
 use crate::Start;
 use broadcasts::beat::Beat;
@@ -29,8 +28,7 @@ fn fresh(x: Settings) -> Controller
 
 // ENTRY POINT. Any bytes: a fresh controller, or the number of the refusal.
 pub fn read(bytes: &[u8]) -> Start
-    ensures number { λ r. ⌜ startNumber r ≡ recordNumber (now (bytes .entry)) ⌝ }
-    ensures answer { λ r. ⌜ r ≡ startOf (now (bytes .entry)) ⌝ }
+    ensures { λ r. ⌜ ReadIs (now (bytes .entry)) r ⌝ }
 {
     match settings::read::read_settings(bytes) {
         SettingsRead::Read(x) => Start::Made(fresh(x)),

@@ -1,18 +1,16 @@
 -- Demand 2, of the entry points themselves: calls made one after the other, each with the answer that it gave, and each answer keeping its
 -- entry point's promise. Here nothing is said of how a controller goes on but what the promises say.
 use Prim.Native.Nat.{ℕ}
-use mathlib.Core.Path.{_≡_}
 use mathlib.Core.List.{List, [], _∷_}
 use lib.IntN.{ℤ}
 use Rattle.readings.specs.declared.Readings.{Readings}
 use Rattle.settings.specs.declared.Written.{Written}
-use Rattle.settings.specs.Read.{recordNumber}
 use Rattle.settings.specs.Write.{Wrote}
 use Rattle.controller.specs.declared.Answer.{Answer}
 use Rattle.controller.specs.declared.Start.{Start}
 use Rattle.controller.specs.declared.Ticked.{Ticked}
-use Rattle.controller.specs.Start.{startOf, startNumber}
-use Rattle.controller.specs.Frame.{frameTo}
+use Rattle.controller.specs.Start.{startNumber, ReadIs}
+use Rattle.controller.specs.Frame.{FrameIs}
 use Rattle.controller.specs.Tick.{TickIs}
 use Rattle.demands.specs.Machine.{Call, Read, Receive, Tick, Write, Box, Off, On, Seen, Nothing, Gave, started}
 
@@ -30,11 +28,12 @@ callIn (DidReceive id s a) = Receive id s
 callIn (DidTick r v t old new k) = Tick r v t old
 callIn (DidWrite old new w) = Write old
 
--- it kept its entry point's promise; without a controller there is nothing to call but `read`
+-- it kept its entry point's promise, by the name that the entry point's contract has it by; without a controller there is nothing to call but
+-- `read`
 unfoldable pub Keeps : Box → Made → Type 0
-Keeps b (DidRead s a) = (startNumber a ≡ recordNumber s) × (a ≡ startOf s)
+Keeps b (DidRead s a) = ReadIs s a
 Keeps Off (DidReceive id s a) = ⊥
-Keeps (On c) (DidReceive id s a) = a ≡ frameTo c id s
+Keeps (On c) (DidReceive id s a) = FrameIs c id s a
 Keeps Off (DidTick r v t old new k) = ⊥
 Keeps (On c) (DidTick r v t old new k) = TickIs c r v t old new k
 Keeps Off (DidWrite old new w) = ⊥
