@@ -8,6 +8,7 @@ pub mod Messages
 pub mod Gone
 pub mod Ends
 pub mod Over
+pub mod Asked
 pub mod Turned
 pub mod Stops
 pub mod Apart

@@ -12,5 +12,6 @@ pub mod Gone
 pub mod Silent
 pub mod SilentSlips
 pub mod Unmoved
+pub mod Asked
 pub mod Since
 pub mod Reach
