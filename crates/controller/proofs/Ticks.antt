@@ -1,25 +1,23 @@
 -- What an accepted tick and a refused one come to, from their parts. Assumes nothing.
-use Prim.Native.Nat.{ℕ, zero, suc, _+_, _*_, _≤_, _<_}
+use Prim.Native.Nat.{ℕ, zero, suc, _+_, _*_, _≤_}
 use native.Mathlib.Nat.{zero-add}
 use native.Mathlib.Omega.{arith}
-use mathlib.Core.Path.{_≡_, refl, sym, _∙_, ap}
+use mathlib.Core.Path.{_≡_, refl, sym, _∙_}
 use mathlib.Core.Bool.{Bool, true, false, cond, _&&_}
 use mathlib.Core.List.{List, [], _∷_, _++_, append-assoc}
 use lib.Dec.{eqb, ltb}
 use lib.IntN.{ℤ}
-use lib.ListN.{length, take, drop}
+use lib.ListN.{length, take}
 use lib.Seq.{take-nil}
-use borrow.Author.Tests.{lt-ltb, ltb-false, eq-eqb, ne-eqb}
+use borrow.Author.Tests.{lt-ltb, ltb-false, ne-eqb}
 use Rattle.buffers.proofs.Tests.{and-right}
 use Rattle.frames.specs.declared.Frame.{Frame}
-use Rattle.frames.specs.Frame.{recordsOf}
 use Rattle.frames.specs.Sent.{Sent}
 use Rattle.frames.proofs.Laws.{sent-eq, sent-start}
 use Rattle.readings.specs.declared.Readings.{Readings}
 use Rattle.readings.specs.Readings.{inRange}
 use Rattle.cells.specs.Tables.{tablesFit, cellsInRange}
 use Rattle.controller.specs.declared.Controller.{Controller}
-use Rattle.controller.specs.declared.Ticked.{Ticked}
 use Rattle.controller.specs.Tick.{tickNumber, tickFrames, chargeFrames, broadcastFrames, cellFrames, tickNext, accepted, TickIs}
 
 -- the frames that are sent of three places are those within the count

@@ -4,19 +4,12 @@ use Prim.Native.Nat.{ℕ, zero, suc}
 use native.Mathlib.Omega.{arith}
 use mathlib.Core.Path.{_≡_, refl, sym, _∙_}
 use mathlib.Core.Bool.{true, false, false≢true}
-use mathlib.Core.List.{List, [], _∷_}
+use mathlib.Core.List.{[], _∷_}
 use lib.IntN.{pos}
-use Rattle.messages.specs.Identifier.{partsOf}
-use Rattle.settings.specs.declared.Settings.{Settings}
-use Rattle.settings.specs.Range.{within, goodStations, inRange}
-use Rattle.charge_messages.specs.declared.ChargeMessage.the-variants.{Cim}
-use Rattle.charge_messages.specs.Content.{contentOf}
 use Rattle.controller.specs.declared.Controller.{Controller}
 use Rattle.controller.specs.Start.{freshOf}
-use Rattle.controller.specs.Frame.{notCan, flagsSet, notForUs, badSource, listed}
 use Rattle.demands.specs.Apart.{Event, Came, Beaten, after}
 use Rattle.demands.specs.Silent.{Unheard, Silence, ticked, ticksIn, endsWithin, repeated, EndsBy}
-use Rattle.demands.specs.Says.{Says}
 use Rattle.demands.specs.Over.{openedWith}
 use Rattle.demands.proofs.Silent.{zeros, quietReadings, such-a-tick, not-within-800}
 use Rattle.demands.proofs.Reach.{cim-opens}

@@ -21,7 +21,7 @@ use Rattle.turns.specs.declared.Turn.the-variants.{On, Enter, Farewell, End}
 use Rattle.turns.specs.Turns.{cellFull, packFull, stopOf, waitingOf, phaseOn, phaseTurn, stopsOf, chargingOf, stoppingOf, errorOf, turnOf}
 use Rattle.session.specs.declared.Session.{Session}
 use Rattle.session.specs.Tick.{turnedBy, turnIn}
-use Rattle.literal.specs.Literal.{older, grown, counted, literalIn, literalAdvance, literalTick}
+use Rattle.literal.specs.Literal.{grown, counted, literalIn, literalAdvance, literalTick}
 use Rattle.demands.specs.Kinds.{isCharging}
 use Rattle.demands.specs.Stops.{Why, GoesOn, Silence, Unwanted, NotWanted, CurrentAbove, PackFull, TimeUp, CellFull, Count600}
 use Rattle.demands.specs.Stops.{timeUp, inHold, whyIn, whyOf, GoesOnAs, LeadsTo}

@@ -1,5 +1,4 @@
 -- Rows of 01, "Worked rows", marked P, that are about what ECR asks. Assumes nothing.
-use Prim.Native.Nat.{ℕ}
 use mathlib.Core.Path.{_≡_, refl}
 use mathlib.Core.Bool.{Bool}
 use Rattle.messages.specs.Identifier.{numberOf}

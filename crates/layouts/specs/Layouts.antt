@@ -2,9 +2,9 @@
 -- endian; every frame has 8 data bytes, zero after its fields.
 use Prim.Native.Nat.{ℕ, _-_, _*_, _/_, _%_}
 use mathlib.Core.Bool.{Bool, cond}
-use mathlib.Core.List.{List, [], _∷_, _++_}
+use mathlib.Core.List.{[], _∷_, _++_}
 use lib.Dec.{leb}
-use Rattle.buffers.specs.Words.{low, high, wordBytes}
+use Rattle.buffers.specs.Words.{wordBytes}
 use Rattle.messages.specs.Table.{EIM, EVM, ECP, ERM, ECR, ECS, ESM, EST, EDM, EEM}
 use Rattle.frames.specs.declared.Frame.{Frame}
 use Rattle.frames.specs.Frame.{frameOf}

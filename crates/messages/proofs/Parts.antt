@@ -1,6 +1,6 @@
 -- An identifier and its parts say the same: made of what was taken apart it is itself again, and the other way round.
 -- Assumes nothing.
-use mathlib.Core.Path.{_≡_, _∙_, ap}
+use mathlib.Core.Path.{_≡_}
 use Prim.Native.Nat.{ℕ, _+_, _*_, _/_, _%_, _<_}
 use native.Mathlib.Omega.{arith}
 use Rattle.messages.specs.declared.identifier.Identifier.{Identifier}

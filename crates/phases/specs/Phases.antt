@@ -4,7 +4,6 @@ use mathlib.Core.Bool.{Bool, cond}
 use lib.Dec.{leb, ltb}
 use Rattle.phases.specs.declared.Phase.{Phase}
 use Rattle.phases.specs.declared.Phase.the-variants.{Drive, Rest, Hold}
-use Rattle.phases.specs.declared.Cause.{Cause}
 use Rattle.phases.specs.declared.Cause.the-variants.{HoldCell, Other}
 use Rattle.phases.specs.declared.Turned.{Turned}
 use Rattle.phases.specs.declared.Turned.the-variants.{On, Stop}

@@ -1,13 +1,11 @@
 -- A current by its sign: what each definition says of a number that is not below 0, and of one that is. Assumes nothing.
 use Prim.Native.Nat.{ℕ, zero, suc, _+_, _-_, _≤_, _<_}
-use mathlib.Core.Path.{_≡_, refl, sym, _∙_, ap}
-use mathlib.Core.Bool.{Bool, true, false, _&&_, and-true}
+use mathlib.Core.Path.{_≡_, refl, sym}
+use mathlib.Core.Bool.{true, false, and-true}
 use native.Mathlib.Omega.{arith}
 use borrow.Author.Tests.{leb-true, le-ltb, lt-ltb}
 use lib.Dec.{leb, ltb}
 use lib.IntN.{ℤ, pos, negsuc, natAbs, _-ℤ_}
-use lib.Signed.{leZ}
-use Rattle.units.specs.declared.Signed.{Signed}
 use Rattle.units.specs.declared.Signed.the-variants.{NotBelow, Below}
 use Rattle.units.specs.Signed.{signedOf}
 use Rattle.units.proofs.Sign.{is-not-below, is-below}

@@ -2,7 +2,6 @@
 use Prim.Native.Nat.{ℕ}
 use Rattle.settings.specs.declared.Settings.{Settings}
 use Rattle.charge_messages.specs.declared.ChargeMessage.{ChargeMessage}
-use Rattle.states.specs.declared.State.{State}
 use Rattle.states.specs.declared.State.the-variants.{Idle, Offered}
 use Rattle.outcomes.specs.declared.Outcome.{Outcome}
 use Rattle.outcomes.specs.declared.Outcome.the-variants.{Refuse, OutOfStep, Open, Heard, Enter, Keep, End}

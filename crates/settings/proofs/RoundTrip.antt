@@ -1,22 +1,20 @@
 -- The two round trips of a settings record: reading what was written gives the settings back, and writing what was read gives the
 -- bytes back. Assumes nothing.
-use Prim.Native.Nat.{ℕ, zero, suc, _+_, _*_, _%_, _/_, _≤_, _<_}
+use Prim.Native.Nat.{ℕ, zero, suc, _+_, _*_, _%_, _/_, _≤_}
 use native.Mathlib.Nat.{add-zero}
 use native.Mathlib.Numerals.{add-one}
 use native.Mathlib.Omega.{arith}
 use mathlib.Core.Path.{_≡_, refl, sym, _∙_, ap, ap₂}
-use mathlib.Core.Bool.{Bool, true, false, cond, _&&_}
+use mathlib.Core.Bool.{Bool, true, false, cond}
 use mathlib.Core.List.{List, [], _∷_, _++_, append-nil}
-use lib.Dec.{eqb, ltb, eqb→eq}
+use lib.Dec.{eqb, ltb}
 use lib.ListN.{length, take, drop, getD}
-use lib.Seq.{drop-cons, drop-drop, drop-length, take-append-seam}
+use lib.Seq.{drop-cons, drop-length, take-append-seam}
 use borrow.Author.Tests.{eqb-true}
-use Rattle.buffers.specs.Words.{low, high, wordBytes, wordAt}
+use Rattle.buffers.specs.Words.{wordBytes, wordAt}
 use Rattle.settings.specs.declared.Settings.{Settings}
 use Rattle.settings.specs.declared.Stations.{Stations}
-use Rattle.settings.specs.declared.Versions.{Versions}
 use Rattle.settings.specs.declared.Written.{Written}
-use Rattle.settings.specs.declared.SettingsRead.{SettingsRead}
 use Rattle.settings.specs.declared.SettingsRead.the-variants.{Read, Refused}
 use Rattle.settings.specs.Range.{within, inRange, goodStations, stationList}
 use Rattle.settings.specs.Record.{field, versionList, recordOf}
@@ -24,7 +22,7 @@ use Rattle.settings.specs.Read.{headAt, layoutOf, stationAt, stationsAt,
 use Rattle.settings.specs.Tidy.{tidy, tidyStations, Bytes}
 use Rattle.settings.specs.Write.{Wrote, writeNumber, writtenOf, laterOf}
 use Rattle.buffers.proofs.Tests.{and-left, and-right}
-use Rattle.settings.proofs.Laws.{range-some, range-four, length-record, within-least, within-most, read-0}
+use Rattle.settings.proofs.Laws.{range-some, range-four, within-least, within-most, read-0}
 
 -- what holds at 1, 2, 3 and 4 holds at each n from 1 to 4
 one-to-four : (P : ℕ → Type 0) → P 1 → P 2 → P 3 → P 4 → (n : ℕ) → 1 ≤ n → n ≤ 4 → P n

@@ -2,7 +2,7 @@
 use Prim.Native.Nat.{ℕ}
 use mathlib.Core.List.{List, [], _∷_, _++_}
 use lib.ListN.{length}
-use Rattle.buffers.specs.Words.{low, high, wordBytes}
+use Rattle.buffers.specs.Words.{wordBytes}
 use Rattle.settings.specs.declared.Settings.{Settings}
 use Rattle.settings.specs.declared.Versions.{Versions}
 use Rattle.settings.specs.Range.{stationList}

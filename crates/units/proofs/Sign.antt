@@ -1,14 +1,13 @@
 -- A 16-bit signed number by its sign: what the subtraction and the casts of `sign_of` come to. Assumes nothing.
-use Prim.Native.Nat.{ℕ, suc, _-_, _≤_, _<_}
+use Prim.Native.Nat.{ℕ, suc, _-_, _≤_}
 use mathlib.Core.Path.{_≡_, refl, sym, _∙_, ap}
 use mathlib.Core.Bool.{Bool, true, false}
 use native.Mathlib.Omega.{arith}
 use borrow.Author.Tests.{le-ltb}
-use lib.IntN.{ℤ, pos, negsuc, natAbs, _-ℤ_}
+use lib.IntN.{ℤ, pos, negsuc, _-ℤ_}
 use lib.Signed.{ltZ}
 use mir.Syntax.{w16}
 use mir.Val.{SFits}
-use Rattle.units.specs.declared.Signed.{Signed}
 use Rattle.units.specs.declared.Signed.the-variants.{NotBelow, Below}
 use Rattle.units.specs.Signed.{signedOf}
 

@@ -8,7 +8,6 @@ use borrow.Author.Needs.{needs}
 use lib.ListN.{length, take, getD, set, length-set}
 use lib.Seq.{sets, take-all}
 use denote.Ref.{now}
-use Rattle.buffers.specs.Laid.{Laid}
 use Rattle.buffers.proofs.Laws.{laid-sets, sets-step}
 use Rattle.buffers.proofs.lay.Statement.{statement}
 use Rattle.buffers.proofs.lay.Tie as tie

@@ -1,9 +1,8 @@
 -- `units::sign_of` meets its contract. Assumes nothing.
-use mathlib.Core.Path.{_≡_, sym, _∙_, ap}
+use mathlib.Core.Path.{sym, _∙_, ap}
 use native.Mathlib.Omega.{arith}
 use lib.IntN.{ℤ, natAbs}
 use mir.Facts.{toZ-ofZ}
-use Rattle.units.specs.declared.Signed.{Signed}
 use Rattle.units.specs.declared.Signed.the-variants.{NotBelow, Below}
 use Rattle.units.proofs.Sign.{Below0, NotBelow0, below, not-below}
 use Rattle.units.proofs.sign_of.Statement.{statement}

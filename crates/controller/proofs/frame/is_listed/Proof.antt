@@ -1,6 +1,5 @@
 -- `controller::frame::is_listed` meets its contract. Assumes nothing.
 use Rattle.controller.proofs.Listed.{here-is}
-use Rattle.controller.specs.Frame.{listed}
 use Rattle.controller.proofs.frame.is_listed.Statement.{statement}
 use Rattle.controller.proofs.frame.is_listed.Tie as tie
 

@@ -1,7 +1,6 @@
 -- `settings::read::layout` meets its contract. Assumes nothing.
 use mathlib.Core.Path.{sym, _∙_}
 use Rattle.settings.proofs.Laws.{layout-yes, layout-no}
-use Rattle.settings.specs.Read.{layoutOf}
 use borrow.Author.Needs.{needs}
 use Rattle.settings.proofs.read.layout.Statement.{statement}
 use Rattle.settings.proofs.read.layout.Tie as tie

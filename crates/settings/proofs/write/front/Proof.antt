@@ -1,7 +1,6 @@
 -- `settings::write::front` meets its contract: tags 1 to 5, and the head of tag 6. Assumes nothing.
 use mathlib.Core.Path.{refl}
 use Rattle.settings.proofs.Laws.{record-front}
-use Rattle.settings.specs.Record.{recordOf}
 use borrow.Author.Needs.{needs}
 use Rattle.settings.proofs.write.front.Statement.{statement}
 use Rattle.settings.proofs.write.front.Tie as tie

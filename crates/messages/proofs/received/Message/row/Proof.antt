@@ -1,11 +1,9 @@
 -- `messages::received::Message::row` meets its contract: each message's place in the table holds its row.
 -- Assumes nothing.
-use mathlib.Core.Path.{_≡_, refl, _∙_, ap}
-use Prim.Native.Nat.{_<_}
+use mathlib.Core.Path.{_∙_, ap}
 use native.Mathlib.Omega.{arith}
 use borrow.Author.Needs.{needs}
 use Rattle.messages.specs.Table.{rowAt}
-use Rattle.messages.specs.Received.{rowOf, placeOf}
 use Rattle.messages.proofs.Places.{place-holds, place-within}
 use Rattle.messages.proofs.received.Message.row.Statement.{statement}
 use Rattle.messages.proofs.received.Message.row.Tie as tie
