@@ -11,7 +11,10 @@ use Rattle.cells.specs.declared.Cells.{Cells}
 use Rattle.cells.specs.Summaries.{cellsOf}
 use Rattle.states.specs.declared.State.{State}
 use Rattle.states.specs.declared.State.the-variants.{Idle, Offered, Unverified, Parameters, Ready, Charging, Stopping, Error}
-use Rattle.turns.specs.Turns.{turnOf}
+use Rattle.phases.specs.declared.Turned.{Turned}
+use Rattle.phases.specs.declared.Turned.the-variants as turned
+use Rattle.phases.specs.Phases.{turnedOf}
+use Rattle.turns.specs.Turns.{cellFull, turnOf}
 use Rattle.session.specs.Tick.{turnedBy, turnIn}
 use Rattle.literal.specs.Literal.{literalIn, literalAdvance, literalTick}
 use Rattle.controller.specs.declared.Controller.{Controller}
@@ -20,7 +23,7 @@ use Rattle.demands.specs.Machine.{paperNext}
 use Rattle.demands.specs.Apart.{Beaten, accepts, after, ended}
 use Rattle.demands.specs.Kinds.{isCharging}
 use Rattle.demands.specs.Stops.{Why, GoesOn, Silence, Unwanted, NotWanted, CurrentAbove, PackFull, TimeUp, CellFull, Count600}
-use Rattle.demands.specs.Stops.{whyOf, GoesOnAs, LeadsTo, endsFor, leavesFor}
+use Rattle.demands.specs.Stops.{whyOf, ChargesAs, GoesOnAs, LeadsTo, endsFor, leavesFor}
 use Rattle.demands.proofs.Messages.{mk}
 use Rattle.demands.proofs.Turned.{tick-why}
 
@@ -36,6 +39,11 @@ charging-open (Stopping k e) h = refl
 charging-open Error h = refl
 
 module _ (x : Settings) (r : Readings) (c : Cells) where
+  charges-on : (t : Turned) (to : State) → ChargesAs x r c t to → isCharging to ≡ true
+  unfolding ChargesAs isCharging
+  charges-on (turned.On p) to e = ap isCharging e
+  charges-on (turned.Stop cause) to e = absurd e
+
   on-open : (from to : State) → isIdle from ≡ false → GoesOnAs x r c from to → isIdle to ≡ false
   unfolding GoesOnAs isIdle
   on-open Idle to h e = absurd (false≢true (sym h))
@@ -43,7 +51,7 @@ module _ (x : Settings) (r : Readings) (c : Cells) where
   on-open Unverified to h e = ap isIdle e
   on-open Parameters to h e = ap isIdle e
   on-open (Ready y most) to h e = ap isIdle e
-  on-open (Charging p) to h e = charging-open to e
+  on-open (Charging p) to h e = charging-open to (charges-on (turnedOf p (cellFull x c)) to e)
   on-open (Stopping k f) to h e = ap isIdle e
   on-open Error to h e = ap isIdle e
 
@@ -66,7 +74,7 @@ module _ (x : Settings) (r : Readings) (c : Cells) where
   on-charging Unverified to h e = absurd (false≢true h)
   on-charging Parameters to h e = absurd (false≢true h)
   on-charging (Ready y most) to h e = absurd (false≢true h)
-  on-charging (Charging p) to h e = e
+  on-charging (Charging p) to h e = charges-on (turnedOf p (cellFull x c)) to e
   on-charging (Stopping k f) to h e = absurd (false≢true h)
   on-charging Error to h e = absurd (false≢true h)
 

@@ -12,11 +12,14 @@ use Rattle.phases.specs.declared.Phase.{Phase}
 use Rattle.phases.specs.declared.Phase.the-variants.{Drive, Rest, Hold}
 use Rattle.phases.specs.declared.Cause.{Cause}
 use Rattle.phases.specs.declared.Cause.the-variants.{PackVoltage, HoldCell, Other}
+use Rattle.phases.specs.declared.Turned.{Turned}
+use Rattle.phases.specs.declared.Turned.the-variants as turned
+use Rattle.phases.specs.Phases.{turnedOf}
 use Rattle.states.specs.declared.State.{State}
 use Rattle.states.specs.declared.State.the-variants.{Idle, Offered, Unverified, Parameters, Ready, Charging, Stopping, Error}
 use Rattle.turns.specs.Turns.{cellFull, packFull, estOf, estThen}
 use Rattle.session.specs.declared.Session.{Session}
-use Rattle.demands.specs.Kinds.{isCharging}
+use Rattle.literal.specs.Literal.{older}
 
 -- the rule that holds, or that none does
 pub data Why : Type 0 where
@@ -75,6 +78,11 @@ module _ (x : Settings) (r : Readings) (c : Cells) where
   unfoldable pub whyOf : Session → Why
   whyOf s = whyIn (s .count) (s .silence) (s .state)
 
+  -- Charging goes on in the phase that the phase's own rules lead to, one tick older
+  unfoldable pub ChargesAs : Turned → State → Type 0
+  ChargesAs (turned.On p) to = to ≡ Charging (older p)
+  ChargesAs (turned.Stop cause) to = ⊥
+
   -- where no rule holds the state is as it was, but that Charging goes on by its phase, and Stopping has its EST bytes fixed by now
   unfoldable pub GoesOnAs : State → State → Type 0
   GoesOnAs Idle to = to ≡ Idle
@@ -82,7 +90,7 @@ module _ (x : Settings) (r : Readings) (c : Cells) where
   GoesOnAs Unverified to = to ≡ Unverified
   GoesOnAs Parameters to = to ≡ Parameters
   GoesOnAs (Ready accepted most) to = to ≡ Ready accepted most
-  GoesOnAs (Charging p) to = isCharging to ≡ true
+  GoesOnAs (Charging p) to = ChargesAs (turnedOf p (cellFull x c)) to
   GoesOnAs (Stopping acknowledged est) to = to ≡ Stopping acknowledged (estThen x r c est)
   GoesOnAs Error to = to ≡ Error
 
