@@ -1,6 +1,6 @@
 // What a controller sent, wrote and entered, as lines: the frames of a tick as candump writes them, a settings record, and a session's
 // standing where it is another than before. This crate may not know any controller, nor why a frame was sent.
-ghost use Prim.Native.Nat.{_≤_};
+ghost use Prim.Native.Nat.{_+_, _≤_};
 use printing::Out;
 use states::State;
 
@@ -79,41 +79,91 @@ impl Standing {
     }
 }
 
-// A tick's time, 50 ms a tick.
-fn print_time(tick: u64, o: &mut Out, at: usize) -> usize {
-    let a = printing::put(o, at, b'(');
-    let b = printing::decimal(o, a, tick / 20, 10);
-    let c = printing::put(o, b, b'.');
-    let d = printing::decimal(o, c, tick % 20 * 50_000, 6);
-    printing::text(o, d, b") can0 ")
-}
-
-// The identifier of a frame of a buffer.
-fn print_identifier(buf: &Buffer, i: usize, o: &mut Out, at: usize) -> usize
-    requires { ⌜ i ≤ 4096 ⌝ }
+// A number in so many digits, with zeros before it, at a place that has the room.
+fn padded(o: &mut Out, at: usize, n: u64, width: usize)
+    requires { ⌜ at + width ≤ 65536 ⌝ }
 {
-    let a = printing::byte(o, at, buffers::byte_at(buf, i + 3));
-    let b = printing::byte(o, a, buffers::byte_at(buf, i + 2));
-    let c = printing::byte(o, b, buffers::byte_at(buf, i + 1));
-    printing::byte(o, c, buffers::byte_at(buf, i))
+    let mut rest = n;
+    let mut i = width;
+    while 0 < i {
+        i -= 1;
+        o[at + i] = b'0' + (rest % 10) as u8;
+        rest = rest / 10;
+    }
 }
 
-// One frame of a buffer, as candump writes it.
+const DIGITS: [u8; 16] = *b"0123456789ABCDEF";
+
+// A byte as two hex digits, at a place that has the room.
+fn hex(o: &mut Out, at: usize, b: u8)
+    requires { ⌜ at + 2 ≤ 65536 ⌝ }
+{
+    let high = (b / 16) as usize;
+    let low = (b % 16) as usize;
+    o[at] = DIGITS[high];
+    o[at + 1] = DIGITS[low];
+}
+
+// A tick's time from its last ten digits of seconds on, 50 ms a tick, and the interface.
+fn lay_time(tick: u64, o: &mut Out, at: usize)
+    requires { ⌜ at + 64 ≤ 65536 ⌝ }
+{
+    padded(o, at, tick / 20, 10);
+    o[at + 10] = b'.';
+    padded(o, at + 11, tick % 20 * 50_000, 6);
+    o[at + 17] = b')';
+    o[at + 18] = b' ';
+    o[at + 19] = b'c';
+    o[at + 20] = b'a';
+    o[at + 21] = b'n';
+    o[at + 22] = b'0';
+    o[at + 23] = b' ';
+}
+
+// The eight data bytes of a frame.
+fn lay_data(buf: &Buffer, i: usize, o: &mut Out, at: usize)
+    requires { ⌜ (at + 16 ≤ 65536) × (i + 8 ≤ 4096) ⌝ }
+{
+    let mut k = 0;
+    while k < 8 {
+        hex(o, at + 2 * k, buf[i + k]);
+        k += 1;
+    }
+}
+
+// A frame's identifier and data, and the end of the line.
+fn lay_frame(buf: &Buffer, i: usize, o: &mut Out, at: usize)
+    requires { ⌜ (at + 64 ≤ 65536) × (i + 13 ≤ 4096) ⌝ }
+{
+    hex(o, at + 24, buf[i + 3]);
+    hex(o, at + 26, buf[i + 2]);
+    hex(o, at + 28, buf[i + 1]);
+    hex(o, at + 30, buf[i]);
+    o[at + 32] = b'#';
+    lay_data(buf, i + 5, o, at + 33);
+    o[at + 49] = b'\n';
+}
+
+// One frame of a buffer, as candump writes it: after what ten digits of seconds leave out, each byte has its place.
 fn print_frame(buf: &Buffer, i: usize, tick: u64, o: &mut Out, at: usize) -> usize
-    requires { ⌜ i ≤ 4096 ⌝ }
+    requires { ⌜ i + 13 ≤ 4096 ⌝ }
 {
-    let a = print_time(tick, o, at);
-    let b = print_identifier(buf, i, o, a);
-    let c = printing::put(o, b, b'#');
-    let d = printing::bytes(o, c, buf, i + 5, i + 13);
-    printing::put(o, d, b'\n')
+    let mut a = printing::put(o, at, b'(');
+    let seconds = tick / 20;
+    if 9_999_999_999 < seconds {
+        a = printing::decimal(o, a, seconds / 10_000_000_000, 1);
+    }
+    let b = printing::room(o, a);
+    lay_time(tick, o, b);
+    lay_frame(buf, i, o, b);
+    b + 50
 }
 
 // The frames in the first n bytes of a buffer.
 pub fn print_frames(buf: &Buffer, n: usize, tick: u64, o: &mut Out, at: usize) -> usize {
     let mut a = at;
     let mut i = 0;
-    while i < 4096 {
+    while i < 4084 {
         if n <= i {
             break;
         }
