@@ -79,95 +79,105 @@ impl Standing {
     }
 }
 
-// A number in so many digits, with zeros before it, at a place that has the room.
-fn padded(o: &mut Out, at: usize, n: u64, width: usize)
-    requires { ⌜ at + width ≤ 65536 ⌝ }
+// What a frame's line holds from the last ten digits of its seconds up to its identifier.
+type Head = [u8; 24];
+
+// The last digits of a number, so many of them. The number has 32 bits, since these are divided in fewer instructions than 64.
+fn padded(h: &mut Head, at: usize, n: u32, width: usize)
+    requires { ⌜ at + width ≤ 24 ⌝ }
 {
     let mut rest = n;
     let mut i = width;
     while 0 < i {
         i -= 1;
-        o[at + i] = b'0' + (rest % 10) as u8;
+        h[at + i] = b'0' + (rest % 10) as u8;
         rest = rest / 10;
     }
 }
 
-const DIGITS: [u8; 16] = *b"0123456789ABCDEF";
+// The head of a tick's frames, 50 ms a tick: of the microseconds, the last four digits are always 0.
+fn head(tick: u64) -> Head {
+    let mut h = *b"0000000000.000000) can0 ";
+    let seconds = tick / 20;
+    padded(&mut h, 0, (seconds / 100_000 % 100_000) as u32, 5);
+    padded(&mut h, 5, (seconds % 100_000) as u32, 5);
+    padded(&mut h, 11, (tick % 20 * 5) as u32, 2);
+    h
+}
 
-// A byte as two hex digits, at a place that has the room.
-fn hex(o: &mut Out, at: usize, b: u8)
+// The functions that lay are handed a place that has the room.
+fn lay_head(h: &Head, o: &mut Out, at: usize)
+    requires { ⌜ at + 24 ≤ 65536 ⌝ }
+{
+    let mut k = 0;
+    while k < 24 {
+        o[at + k] = h[k];
+        k += 1;
+    }
+}
+
+// The hex digits, made once for the frames of a tick.
+type Digits = [u8; 16];
+
+// A byte as two hex digits.
+fn lay_byte(b: u8, digits: &Digits, o: &mut Out, at: usize)
     requires { ⌜ at + 2 ≤ 65536 ⌝ }
 {
     let high = (b / 16) as usize;
     let low = (b % 16) as usize;
-    o[at] = DIGITS[high];
-    o[at + 1] = DIGITS[low];
-}
-
-// A tick's time from its last ten digits of seconds on, 50 ms a tick, and the interface.
-fn lay_time(tick: u64, o: &mut Out, at: usize)
-    requires { ⌜ at + 64 ≤ 65536 ⌝ }
-{
-    padded(o, at, tick / 20, 10);
-    o[at + 10] = b'.';
-    padded(o, at + 11, tick % 20 * 50_000, 6);
-    o[at + 17] = b')';
-    o[at + 18] = b' ';
-    o[at + 19] = b'c';
-    o[at + 20] = b'a';
-    o[at + 21] = b'n';
-    o[at + 22] = b'0';
-    o[at + 23] = b' ';
+    o[at] = digits[high];
+    o[at + 1] = digits[low];
 }
 
 // The eight data bytes of a frame.
-fn lay_data(buf: &Buffer, i: usize, o: &mut Out, at: usize)
+fn lay_data(buf: &Buffer, i: usize, digits: &Digits, o: &mut Out, at: usize)
     requires { ⌜ (at + 16 ≤ 65536) × (i + 8 ≤ 4096) ⌝ }
 {
     let mut k = 0;
     while k < 8 {
-        hex(o, at + 2 * k, buf[i + k]);
+        lay_byte(buf[i + k], digits, o, at + 2 * k);
         k += 1;
     }
 }
 
 // A frame's identifier and data, and the end of the line.
-fn lay_frame(buf: &Buffer, i: usize, o: &mut Out, at: usize)
-    requires { ⌜ (at + 64 ≤ 65536) × (i + 13 ≤ 4096) ⌝ }
+fn lay_frame(buf: &Buffer, i: usize, digits: &Digits, o: &mut Out, at: usize)
+    requires { ⌜ (at + 26 ≤ 65536) × (i + 13 ≤ 4096) ⌝ }
 {
-    hex(o, at + 24, buf[i + 3]);
-    hex(o, at + 26, buf[i + 2]);
-    hex(o, at + 28, buf[i + 1]);
-    hex(o, at + 30, buf[i]);
-    o[at + 32] = b'#';
-    lay_data(buf, i + 5, o, at + 33);
-    o[at + 49] = b'\n';
+    lay_byte(buf[i + 3], digits, o, at);
+    lay_byte(buf[i + 2], digits, o, at + 2);
+    lay_byte(buf[i + 1], digits, o, at + 4);
+    lay_byte(buf[i], digits, o, at + 6);
+    o[at + 8] = b'#';
+    lay_data(buf, i + 5, digits, o, at + 9);
+    o[at + 25] = b'\n';
 }
 
-// One frame of a buffer, as candump writes it: after what ten digits of seconds leave out, each byte has its place.
-fn print_frame(buf: &Buffer, i: usize, tick: u64, o: &mut Out, at: usize) -> usize
-    requires { ⌜ i + 13 ≤ 4096 ⌝ }
-{
-    let mut a = printing::put(o, at, b'(');
+// A frame's line up to its head: the digits of the seconds before the last ten, which there are after 317 years.
+fn print_start(tick: u64, o: &mut Out, at: usize) -> usize {
+    let a = printing::put(o, at, b'(');
     let seconds = tick / 20;
-    if 9_999_999_999 < seconds {
-        a = printing::decimal(o, a, seconds / 10_000_000_000, 1);
+    if seconds < 10_000_000_000 {
+        return a;
     }
-    let b = printing::room(o, a);
-    lay_time(tick, o, b);
-    lay_frame(buf, i, o, b);
-    b + 50
+    printing::decimal(o, a, seconds / 10_000_000_000, 1)
 }
 
-// The frames in the first n bytes of a buffer.
+// The frames in the first n bytes of a buffer, as candump writes them. A whole frame begins at 4083 at the latest.
 pub fn print_frames(buf: &Buffer, n: usize, tick: u64, o: &mut Out, at: usize) -> usize {
+    let h = head(tick);
+    let digits = b"0123456789ABCDEF";
     let mut a = at;
     let mut i = 0;
     while i < 4084 {
         if n <= i {
             break;
         }
-        a = print_frame(buf, i, tick, o, a);
+        a = print_start(tick, o, a);
+        a = printing::room(o, a);
+        lay_head(&h, o, a);
+        lay_frame(buf, i, digits, o, a + 24);
+        a += 50;
         i += 13;
     }
     a

@@ -1,48 +1,39 @@
--- `reports::padded` is safe and ends: the places that are left fall, and stay below the width. Assumes nothing.
+-- `reports::padded` is safe and ends: the places that are left fall, and are never more than the width. Assumes nothing.
 use borrow.Author.Needs.{needs}
 use Prim.Native.Nat.{_≤_}
 use Rattle.reports.proofs.padded.Statement.{statement}
 use Rattle.reports.proofs.padded.Tie as tie
 
 abbrev Inv-loop : tie.InvT-loop
-Inv-loop o₀ at n width rest₀ i₀ o rest i = i ≤ width
+Inv-loop h₀ at n width rest₀ i₀ h rest i = i ≤ width
 
 abbrev μ-loop : tie.MeasureT-loop
-μ-loop o₀ at n width rest₀ i₀ o rest i = i
+μ-loop h₀ at n width rest₀ i₀ h rest i = i
 
--- src/lib.rt:88:5
 loop-holds : tie.Need-loop-holds Inv-loop μ-loop
 loop-holds c = search needs
 
--- src/lib.rt:89:9
 sub-i : tie.Need-sub-i Inv-loop μ-loop
 sub-i c = search needs
 
--- src/lib.rt:90:28
-cast-o : tie.Need-cast-o Inv-loop μ-loop
-cast-o c = search needs
+cast-h : tie.Need-cast-h Inv-loop μ-loop
+cast-h c = search needs
 
--- src/lib.rt:90:21
-add-o : tie.Need-add-o Inv-loop μ-loop
-add-o c = search needs
+add-h : tie.Need-add-h Inv-loop μ-loop
+add-h c = search needs
 
--- src/lib.rt:90:11
-add-o-2 : tie.Need-add-o-2 Inv-loop μ-loop
-add-o-2 c = search needs
+add-h-2 : tie.Need-add-h-2 Inv-loop μ-loop
+add-h-2 c = search needs
 
--- src/lib.rt:90:9
-element-write-o : tie.Need-element-write-o Inv-loop μ-loop
-element-write-o c = search needs
+element-write-h : tie.Need-element-write-h Inv-loop μ-loop
+element-write-h c = search needs
 
--- src/lib.rt:88:5
 loop-less : tie.Need-loop-less Inv-loop μ-loop
 loop-less c = search needs
 
--- src/lib.rt:88:5
 loop-again : tie.Need-loop-again Inv-loop μ-loop
 loop-again c = search needs
 
--- src/lib.rt:83:1
 returns : tie.Need-returns Inv-loop μ-loop
 returns c = search needs
 
@@ -54,10 +45,10 @@ padded-spec =
     μ-loop
     loop-holds
     sub-i
-    cast-o
-    add-o
-    add-o-2
-    element-write-o
+    cast-h
+    add-h
+    add-h-2
+    element-write-h
     loop-less
     loop-again
     returns)
