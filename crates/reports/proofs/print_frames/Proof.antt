@@ -8,7 +8,7 @@ abbrev Inv-loop : tie.InvT-loop
 Inv-loop buf n tick o₀ at h digits a₀ i₀ o a i = Unit {0}
 
 abbrev μ-loop : tie.MeasureT-loop
-μ-loop buf n tick o₀ at h digits a₀ i₀ o a i = 4084 - i
+μ-loop buf n tick o₀ at h digits a₀ i₀ o a i = 4096 - i
 
 head-requires : tie.Need-head-requires Inv-loop μ-loop
 head-requires c κs = search needs
