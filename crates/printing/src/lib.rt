@@ -1,5 +1,6 @@
 // Output by way of a buffer, which is written to standard output where it is full: bytes, words, and numbers in decimal and hex. Each
 // function takes the place that is free and returns the next. This crate may not know what is written, nor why.
+ghost use Prim.Native.Nat.{_+_, _≤_};
 use libc::STDOUT_FILENO;
 
 // The output that waits to be written.
@@ -92,6 +93,17 @@ pub fn bytes(o: &mut Out, at: usize, s: &[u8], from: usize, to: usize) -> usize 
         i += 1;
     }
     a
+}
+
+// A place from which the 64 bytes of a line are free: what waits is written out where they are not.
+pub fn room(o: &mut Out, at: usize) -> usize
+    ensures { λ r. ⌜ r + 64 ≤ 65536 ⌝ }
+{
+    if at <= 65472 {
+        return at;
+    }
+    flush(o, at);
+    0
 }
 
 // A word, a number and the end of the line.

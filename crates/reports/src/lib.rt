@@ -1,6 +1,6 @@
 // What a controller sent, wrote and entered, as lines: the frames of a tick as candump writes them, a settings record, and a session's
 // standing where it is another than before. This crate may not know any controller, nor why a frame was sent.
-ghost use Prim.Native.Nat.{_≤_};
+ghost use Prim.Native.Nat.{_+_, _≤_};
 use printing::Out;
 use states::State;
 
@@ -79,45 +79,105 @@ impl Standing {
     }
 }
 
-// A tick's time, 50 ms a tick.
-fn print_time(tick: u64, o: &mut Out, at: usize) -> usize {
+// What a frame's line holds from the last ten digits of its seconds up to its identifier.
+type Head = [u8; 24];
+
+// The last digits of a number, so many of them. The number has 32 bits, since these are divided in fewer instructions than 64.
+fn padded(h: &mut Head, at: usize, n: u32, width: usize)
+    requires { ⌜ at + width ≤ 24 ⌝ }
+{
+    let mut rest = n;
+    let mut i = width;
+    while 0 < i {
+        i -= 1;
+        h[at + i] = b'0' + (rest % 10) as u8;
+        rest = rest / 10;
+    }
+}
+
+// The head of a tick's frames, 50 ms a tick: of the microseconds, the last four digits are always 0.
+fn head(tick: u64) -> Head {
+    let mut h = *b"0000000000.000000) can0 ";
+    let seconds = tick / 20;
+    padded(&mut h, 0, (seconds / 100_000 % 100_000) as u32, 5);
+    padded(&mut h, 5, (seconds % 100_000) as u32, 5);
+    padded(&mut h, 11, (tick % 20 * 5) as u32, 2);
+    h
+}
+
+// The functions that lay are handed a place that has the room.
+fn lay_head(h: &Head, o: &mut Out, at: usize)
+    requires { ⌜ at + 24 ≤ 65536 ⌝ }
+{
+    let mut k = 0;
+    while k < 24 {
+        o[at + k] = h[k];
+        k += 1;
+    }
+}
+
+// The hex digits, made once for the frames of a tick.
+type Digits = [u8; 16];
+
+// A byte as two hex digits.
+fn lay_byte(b: u8, digits: &Digits, o: &mut Out, at: usize)
+    requires { ⌜ at + 2 ≤ 65536 ⌝ }
+{
+    let high = (b / 16) as usize;
+    let low = (b % 16) as usize;
+    o[at] = digits[high];
+    o[at + 1] = digits[low];
+}
+
+// The eight data bytes of a frame.
+fn lay_data(buf: &Buffer, i: usize, digits: &Digits, o: &mut Out, at: usize)
+    requires { ⌜ (at + 16 ≤ 65536) × (i + 8 ≤ 4096) ⌝ }
+{
+    let mut k = 0;
+    while k < 8 {
+        lay_byte(buf[i + k], digits, o, at + 2 * k);
+        k += 1;
+    }
+}
+
+// A frame's identifier and data, and the end of the line.
+fn lay_frame(buf: &Buffer, i: usize, digits: &Digits, o: &mut Out, at: usize)
+    requires { ⌜ (at + 26 ≤ 65536) × (i + 13 ≤ 4096) ⌝ }
+{
+    lay_byte(buf[i + 3], digits, o, at);
+    lay_byte(buf[i + 2], digits, o, at + 2);
+    lay_byte(buf[i + 1], digits, o, at + 4);
+    lay_byte(buf[i], digits, o, at + 6);
+    o[at + 8] = b'#';
+    lay_data(buf, i + 5, digits, o, at + 9);
+    o[at + 25] = b'\n';
+}
+
+// A frame's line up to its head: the digits of the seconds before the last ten, which there are after 317 years.
+fn print_start(tick: u64, o: &mut Out, at: usize) -> usize {
     let a = printing::put(o, at, b'(');
-    let b = printing::decimal(o, a, tick / 20, 10);
-    let c = printing::put(o, b, b'.');
-    let d = printing::decimal(o, c, tick % 20 * 50_000, 6);
-    printing::text(o, d, b") can0 ")
+    let seconds = tick / 20;
+    if seconds < 10_000_000_000 {
+        return a;
+    }
+    printing::decimal(o, a, seconds / 10_000_000_000, 1)
 }
 
-// The identifier of a frame of a buffer.
-fn print_identifier(buf: &Buffer, i: usize, o: &mut Out, at: usize) -> usize
-    requires { ⌜ i ≤ 4096 ⌝ }
-{
-    let a = printing::byte(o, at, buffers::byte_at(buf, i + 3));
-    let b = printing::byte(o, a, buffers::byte_at(buf, i + 2));
-    let c = printing::byte(o, b, buffers::byte_at(buf, i + 1));
-    printing::byte(o, c, buffers::byte_at(buf, i))
-}
-
-// One frame of a buffer, as candump writes it.
-fn print_frame(buf: &Buffer, i: usize, tick: u64, o: &mut Out, at: usize) -> usize
-    requires { ⌜ i ≤ 4096 ⌝ }
-{
-    let a = print_time(tick, o, at);
-    let b = print_identifier(buf, i, o, a);
-    let c = printing::put(o, b, b'#');
-    let d = printing::bytes(o, c, buf, i + 5, i + 13);
-    printing::put(o, d, b'\n')
-}
-
-// The frames in the first n bytes of a buffer.
+// The frames in the first n bytes of a buffer, as candump writes them. A whole frame begins at 4083 at the latest.
 pub fn print_frames(buf: &Buffer, n: usize, tick: u64, o: &mut Out, at: usize) -> usize {
+    let h = head(tick);
+    let digits = b"0123456789ABCDEF";
     let mut a = at;
     let mut i = 0;
-    while i < 4096 {
+    while i < 4084 {
         if n <= i {
             break;
         }
-        a = print_frame(buf, i, tick, o, a);
+        a = print_start(tick, o, a);
+        a = printing::room(o, a);
+        lay_head(&h, o, a);
+        lay_frame(buf, i, digits, o, a + 24);
+        a += 50;
         i += 13;
     }
     a

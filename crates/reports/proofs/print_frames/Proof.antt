@@ -5,16 +5,34 @@ use Rattle.reports.proofs.print_frames.Statement.{statement}
 use Rattle.reports.proofs.print_frames.Tie as tie
 
 abbrev Inv-loop : tie.InvT-loop
-Inv-loop buf n tick o₀ at a₀ i₀ o a i = Unit {0}
+Inv-loop buf n tick o₀ at h digits a₀ i₀ o a i = Unit {0}
 
 abbrev μ-loop : tie.MeasureT-loop
-μ-loop buf n tick o₀ at a₀ i₀ o a i = 4096 - i
+μ-loop buf n tick o₀ at h digits a₀ i₀ o a i = 4096 - i
+
+head-requires : tie.Need-head-requires Inv-loop μ-loop
+head-requires c κs = search needs
 
 loop-holds : tie.Need-loop-holds Inv-loop μ-loop
 loop-holds c = search needs
 
-print-frame-requires : tie.Need-print-frame-requires Inv-loop μ-loop
-print-frame-requires c κs = search needs
+print-start-requires : tie.Need-print-start-requires Inv-loop μ-loop
+print-start-requires c κs = search needs
+
+room-requires : tie.Need-room-requires Inv-loop μ-loop
+room-requires c κs = search needs
+
+lay-head-requires : tie.Need-lay-head-requires Inv-loop μ-loop
+lay-head-requires c κs = search needs
+
+add-lay-frame : tie.Need-add-lay-frame Inv-loop μ-loop
+add-lay-frame c = search needs
+
+lay-frame-requires : tie.Need-lay-frame-requires Inv-loop μ-loop
+lay-frame-requires c κs = search needs
+
+add-a : tie.Need-add-a Inv-loop μ-loop
+add-a c = search needs
 
 add-i : tie.Need-add-i Inv-loop μ-loop
 add-i c = search needs
@@ -37,8 +55,14 @@ print-frames-spec =
     (tie.spec
     Inv-loop
     μ-loop
+    head-requires
     loop-holds
-    print-frame-requires
+    print-start-requires
+    room-requires
+    lay-head-requires
+    add-lay-frame
+    lay-frame-requires
+    add-a
     add-i
     loop-less
     loop-again
