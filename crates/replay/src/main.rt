@@ -2,13 +2,10 @@
 // enters. A blank line or one that begins with `#` is ignored; one that asks for nothing known is answered `unreadable line N`. This
 // crate only joins: it may not know how a line is written, how an answer is printed, or any rule of the paper.
 ghost use Prim.Native.Nat.{_≤_};
-
-mod run;
-
 use libc::STDIN_FILENO;
 use printing::Out;
 use reports::Buffer;
-use run::Run;
+use runs::Run;
 use scripts::lent::Temperatures;
 use scripts::lent::Voltages;
 use words::Text;

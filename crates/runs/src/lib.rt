@@ -1,5 +1,5 @@
 // A run: what is kept from line to line, and what a line asks for, carried out. Each kind of line takes and gives back only what it may
-// change.
+// change. This crate may not know how the input is cut into lines, nor any rule of the paper.
 use calls::holder::Holder;
 use printing::Out;
 use reports::Buffer;
