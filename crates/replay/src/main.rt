@@ -1,29 +1,43 @@
 // Replays a list of calls: reads them on standard input, a line each (crate scripts), and writes what the controller answers, sends and
 // enters. A blank line or one that begins with `#` is ignored; one that asks for nothing known is answered `unreadable line N`. This
 // crate only joins: it may not know how a line is written, how an answer is printed, or any rule of the paper.
-mod run;
-
+ghost use Prim.Native.Nat.{_≤_};
 use libc::STDIN_FILENO;
 use printing::Out;
 use reports::Buffer;
-use run::Run;
+use runs::Run;
 use scripts::lent::Temperatures;
 use scripts::lent::Voltages;
 use words::Text;
-use words::lines::Line;
+use words::lines;
+use words::lines::Input;
+use words::lines::Rest;
 use words::numbers::Bytes;
 
-// A run and the line that it is in, and whether there may be more input.
+// A run, the line that it is in, and whether there may be more input.
 struct Place {
     run: Run,
-    line: Line,
+    used: usize,
+    rest: Rest,
     more: bool,
 }
 
-// One read of the input.
+// As many bytes as were read; at the input's end one, the newline that ends the last line.
+fn or_end(input: &mut Input, count: usize) -> usize
+    requires { ⌜ count ≤ 65536 ⌝ }
+    ensures { λ r. ⌜ r ≤ 65536 ⌝ }
+{
+    if count == 0 {
+        input[0] = b'\n';
+        return 1;
+    }
+    count
+}
+
+// One read of the input, whose end also ends its last line.
 fn chunk(
     p: Place,
-    input: &mut [u8; 65536],
+    input: &mut Input,
     kept: &mut Text,
     bytes: &mut Bytes,
     v: &mut Voltages,
@@ -32,30 +46,40 @@ fn chunk(
     o: &mut Out,
 ) -> Place {
     let got = libc::read(STDIN_FILENO, input);
-    let n = io::count(got, input);
+    let count = io::count(got, input);
+    let n = or_end(input, count);
     let mut r = p.run;
-    let mut l = p.line;
+    let mut used = p.used;
+    let mut rest = p.rest;
     let mut i = 0;
     while i < n {
-        let b = input[i];
-        if b == b'\n' {
-            r = r.ended(l, kept, bytes, v, t, buf, o);
-            l = Line::start();
-        } else {
-            l = l.with(kept, b);
+        let k = lines::take(input, n, i, kept, used);
+        i = k.at;
+        used = k.used;
+        if i < n {
+            let b = input[i];
+            if b == b'\n' {
+                lines::close(kept, used);
+                r = r.ended(rest, kept, bytes, v, t, buf, o);
+                used = 0;
+                rest = Rest::start();
+            } else {
+                rest = rest.with(b);
+            }
+            i += 1;
         }
-        i += 1;
     }
     Place {
         run: r,
-        line: l,
-        more: 0 < n,
+        used: used,
+        rest: rest,
+        more: 0 < count,
     }
 }
 
 fn main() {
     let mut input = [0u8; 65536];
-    let mut kept = [0u8; 4096];
+    let mut kept = [0u8; 4097];
     let mut bytes = [0u8; 2048];
     let mut v = [0u16; 512];
     let mut t = [0i16; 512];
@@ -66,7 +90,8 @@ fn main() {
     t[0] = 70;
     let mut p = Place {
         run: Run::start(),
-        line: Line::start(),
+        used: 0,
+        rest: Rest::start(),
         more: true,
     };
     let mut turns = u64::MAX;
@@ -86,7 +111,6 @@ fn main() {
         );
         turns -= 1;
     }
-    let last = p.run;
-    let r = last.ended(p.line, &kept, &mut bytes, &mut v, &mut t, &mut buf, &mut o);
+    let r = p.run;
     printing::finish(&o, r.holder.out);
 }

@@ -1,21 +1,34 @@
 // What kind of line a line is, and the bytes and the frame that stand in it.
 use words::Text;
-use words::Word;
+use words::lines::Rest;
 use words::numbers;
 use words::numbers::Bytes;
 use words::numbers::Hex;
 
-// The kinds of line, by their first word.
+// The kinds of line, by their first word. A line that is too long to be kept is of none.
 pub enum Kind {
+    Ignored,
     Settings,
-    Readings,
-    Voltages,
-    Temperatures,
-    Buffer,
+    Lends(Lend),
     Tick,
     Frame,
     Log,
     Write,
+    Unknown,
+}
+
+// What a line sets of what ticks are lent.
+pub enum Lend {
+    Readings,
+    Voltages,
+    Temperatures,
+    Buffer,
+}
+
+// The bytes of a settings record: how many.
+pub enum Counted {
+    Of(usize),
+    Not,
 }
 
 // A received frame in a line: its identifier and the number of its data bytes.
@@ -24,51 +37,69 @@ pub enum Received {
     Not,
 }
 
+// The kind of a line whose first word begins at a place, and of which there is so much more than is kept.
+pub fn kind_of(line: &Text, from: usize, rest: Rest) -> Kind {
+    if rest.is_ignored(line, from) {
+        return Kind::Ignored;
+    }
+    if rest.some {
+        return Kind::Unknown;
+    }
+    by_word(line, from)
+}
+
 // What no other word begins is a frame.
-pub fn kind_of(line: &Text, used: usize, w: Word) -> Kind {
-    if words::is_word(line, used, w, b"tick") {
+fn by_word(line: &Text, from: usize) -> Kind {
+    match words::byte_at(line, from) {
+        b't' => timely(line, from),
+        b'r' => word_or_frame(line, from, b"readings", Kind::Lends(Lend::Readings)),
+        b'v' => word_or_frame(line, from, b"voltages", Kind::Lends(Lend::Voltages)),
+        b'b' => word_or_frame(line, from, b"buffer", Kind::Lends(Lend::Buffer)),
+        b's' => word_or_frame(line, from, b"settings", Kind::Settings),
+        b'w' => word_or_frame(line, from, b"write", Kind::Write),
+        b'(' => Kind::Log,
+        _ => Kind::Frame,
+    }
+}
+
+fn word_or_frame(line: &Text, from: usize, s: &[u8], k: Kind) -> Kind {
+    if words::is_word(line, from, s) {
+        k
+    } else {
+        Kind::Frame
+    }
+}
+
+// The two words that begin with the same letter.
+fn timely(line: &Text, from: usize) -> Kind {
+    if words::is_word(line, from, b"tick") {
         return Kind::Tick;
     }
-    if words::is_word(line, used, w, b"readings") {
-        return Kind::Readings;
-    }
-    if words::is_word(line, used, w, b"voltages") {
-        return Kind::Voltages;
-    }
-    if words::is_word(line, used, w, b"temperatures") {
-        return Kind::Temperatures;
-    }
-    if words::is_word(line, used, w, b"buffer") {
-        return Kind::Buffer;
-    }
-    if words::is_word(line, used, w, b"settings") {
-        return Kind::Settings;
-    }
-    if words::is_word(line, used, w, b"write") {
-        return Kind::Write;
-    }
-    if words::byte_at(line, used, w.from) == b'(' {
-        return Kind::Log;
-    }
-    Kind::Frame
+    word_or_frame(line, from, b"temperatures", Kind::Lends(Lend::Temperatures))
 }
 
-fn is_one(line: &Text, used: usize, w: Word, b: u8) -> bool {
-    (words::byte_at(line, used, w.from) == b) & (words::after(w.from) == w.to)
+// The bytes of a settings record, or `-`: how many, where they are the last word of their line.
+pub fn record(line: &Text, from: usize, bytes: &mut Bytes) -> Counted {
+    let b = words::byte_at(line, from);
+    if b == b'\n' {
+        return Counted::Not;
+    }
+    if b == b'-' {
+        return closed(line, words::after(from), 0);
+    }
+    match numbers::read_hex(line, from, bytes) {
+        Hex::Bytes(n, at) => closed(line, at, n),
+        Hex::Not => Counted::Not,
+    }
 }
 
-// The bytes of a settings record, or `-`.
-pub fn record(line: &Text, used: usize, w: Word, bytes: &mut Bytes) -> Hex {
-    if w.is_empty() {
-        return Hex::Not;
+// So many bytes, where no word begins or goes on from a place on.
+fn closed(line: &Text, at: usize, n: usize) -> Counted {
+    if words::is_end(line, at) {
+        Counted::Of(n)
+    } else {
+        Counted::Not
     }
-    if !words::is_end(line, used, w.to) {
-        return Hex::Not;
-    }
-    if is_one(line, used, w, b'-') {
-        return Hex::Bytes(0);
-    }
-    numbers::read_hex(line, used, w.from, w.to, bytes)
 }
 
 fn identified(x: u64, n: usize) -> Received {
@@ -83,17 +114,21 @@ fn identified(x: u64, n: usize) -> Received {
 }
 
 // ID#DATA, the last word of its line.
-pub fn read_frame(line: &Text, used: usize, w: Word, bytes: &mut Bytes) -> Received {
-    let d = numbers::read_digits(line, used, w.from, true);
-    let mark = words::byte_at(line, used, d.at) == b'#';
-    let ends = words::is_end(line, used, w.to);
+pub fn read_frame(line: &Text, from: usize, bytes: &mut Bytes) -> Received {
+    let d = numbers::read_hex_digits(line, from);
+    let mark = words::byte_at(line, d.at) == b'#';
     let some = (1 <= d.count) & (d.count <= 8);
-    if mark & (ends & some) {
-        match numbers::read_hex(line, used, words::after(d.at), w.to, bytes) {
-            Hex::Bytes(n) => identified(d.value, n),
-            Hex::Not => Received::Not,
+    if !(mark & some) {
+        return Received::Not;
+    }
+    match numbers::read_hex(line, words::after(d.at), bytes) {
+        Hex::Bytes(n, at) => {
+            if words::is_end(line, at) {
+                identified(d.value, n)
+            } else {
+                Received::Not
+            }
         }
-    } else {
-        Received::Not
+        Hex::Not => Received::Not,
     }
 }

@@ -13,7 +13,8 @@
 use clock::Clock;
 use clock::Due;
 use clock::Time;
-use forms::Kind;
+use forms::Counted;
+use forms::Lend;
 use forms::Received;
 use lent::Lent;
 use lent::Temperatures;
@@ -22,81 +23,61 @@ use tables::Table;
 use words::Text;
 use words::Word;
 use words::numbers::Bytes;
-use words::numbers::Hex;
+use words::numbers::Fit;
 
 pub mod clock;
 pub mod forms;
 pub mod lent;
 pub mod tables;
 
-// What a line asks for. The bytes of a record and of a frame stand in what the reader was lent.
-pub enum Call {
-    Settings(usize),
-    // What each later tick is lent.
-    Lend(Lent),
-    Ticks(u64),
-    // A frame, the ticks that are due before it, and the clock then.
-    Frame(u32, usize, u64, Clock),
-    Write(usize),
-    Unreadable,
+// What each later tick is lent, by a line that sets it.
+pub enum Lending {
+    Of(Lent),
+    Not,
 }
 
-impl Call {
-    // What ticks are lent after it.
-    pub fn lent(self, before: Lent) -> Lent {
-        match self {
-            Call::Lend(l) => l,
-            _ => before,
-        }
-    }
-
-    // The clock after it.
-    pub fn clock(self, before: Clock) -> Clock {
-        match self {
-            Call::Frame(_, _, _, k) => k,
-            _ => before,
-        }
-    }
+// A frame of a log, the ticks that are due before it, and the clock then.
+pub enum Logged {
+    Frame(u32, usize, u64, Clock),
+    Not,
 }
 
 // The longest buffer that a line may ask for.
 const MOST: u64 = 4096;
 
-fn settings(line: &Text, used: usize, at: usize, bytes: &mut Bytes) -> Call {
-    let w = words::next_word(line, used, at);
-    match forms::record(line, used, w, bytes) {
-        Hex::Bytes(n) => Call::Settings(n),
-        Hex::Not => Call::Unreadable,
-    }
+// The bytes of a settings record.
+pub fn settings(line: &Text, from: usize, bytes: &mut Bytes) -> Counted {
+    let at = words::end(line, from);
+    forms::record(line, words::skip(line, at), bytes)
 }
 
-fn readings(line: &Text, used: usize, at: usize, l: Lent) -> Call {
-    let k = tables::read_readings(line, used, at);
+fn readings(line: &Text, at: usize, l: Lent) -> Lending {
+    let k = tables::read_readings(line, at);
     if k.good {
         let x = k.readings;
-        Call::Lend(l.with_readings(x))
+        Lending::Of(l.with_readings(x))
     } else {
-        Call::Unreadable
+        Lending::Not
     }
 }
 
-fn voltages(line: &Text, used: usize, at: usize, l: Lent, v: &mut Voltages) -> Call {
-    match tables::count_numbers(line, used, at, false) {
+fn voltages(line: &Text, at: usize, l: Lent, v: &mut Voltages) -> Lending {
+    match tables::count_numbers(line, at, false) {
         Table::Of(n) => {
-            tables::keep_voltages(line, used, at, n, v);
-            Call::Lend(l.with_volts(n))
+            tables::keep_voltages(line, at, n, v);
+            Lending::Of(l.with_volts(n))
         }
-        Table::Not => Call::Unreadable,
+        Table::Not => Lending::Not,
     }
 }
 
-fn temperatures(line: &Text, used: usize, at: usize, l: Lent, t: &mut Temperatures) -> Call {
-    match tables::count_numbers(line, used, at, true) {
+fn temperatures(line: &Text, at: usize, l: Lent, t: &mut Temperatures) -> Lending {
+    match tables::count_numbers(line, at, true) {
         Table::Of(n) => {
-            tables::keep_temperatures(line, used, at, n, t);
-            Call::Lend(l.with_temps(n))
+            tables::keep_temperatures(line, at, n, t);
+            Lending::Of(l.with_temps(n))
         }
-        Table::Not => Call::Unreadable,
+        Table::Not => Lending::Not,
     }
 }
 
@@ -105,83 +86,66 @@ fn place(x: u64) -> usize {
     if x <= MOST { x as usize } else { 0 }
 }
 
-fn buffer(line: &Text, used: usize, at: usize, l: Lent) -> Call {
-    let f = tables::only(line, used, at, MOST);
+fn buffer(line: &Text, at: usize, l: Lent) -> Lending {
+    let f = tables::only(line, at, MOST);
     if f.good {
-        Call::Lend(l.with_room(place(f.value)))
+        Lending::Of(l.with_room(place(f.value)))
     } else {
-        Call::Unreadable
+        Lending::Not
     }
 }
 
-fn write(line: &Text, used: usize, at: usize) -> Call {
-    let f = tables::only(line, used, at, MOST);
-    if f.good {
-        Call::Write(place(f.value))
-    } else {
-        Call::Unreadable
+// What ticks are lent after a line that sets it, where `l` is what they are lent before.
+pub fn lent_by(
+    what: Lend,
+    line: &Text,
+    from: usize,
+    l: Lent,
+    v: &mut Voltages,
+    t: &mut Temperatures,
+) -> Lending {
+    let at = words::end(line, from);
+    match what {
+        Lend::Readings => readings(line, at, l),
+        Lend::Voltages => voltages(line, at, l, v),
+        Lend::Temperatures => temperatures(line, at, l, t),
+        Lend::Buffer => buffer(line, at, l),
     }
 }
 
-fn tick(line: &Text, used: usize, at: usize) -> Call {
-    let f = tables::one_or(line, used, at, 10_000_000);
+// The length of the buffer to write into.
+pub fn write(line: &Text, from: usize) -> Counted {
+    let f = tables::only(line, words::end(line, from), MOST);
     if f.good {
-        Call::Ticks(f.value)
+        Counted::Of(place(f.value))
     } else {
-        Call::Unreadable
+        Counted::Not
     }
 }
 
-// A frame that comes at no time.
-fn frame(line: &Text, used: usize, w: Word, k: Clock, bytes: &mut Bytes) -> Call {
-    match forms::read_frame(line, used, w, bytes) {
-        Received::Frame(id, n) => Call::Frame(id, n, 0, k),
-        Received::Not => Call::Unreadable,
-    }
+// So many ticks.
+pub fn tick(line: &Text, from: usize) -> Fit {
+    tables::one_or(line, words::end(line, from), 10_000_000)
 }
 
 // A frame after the ticks that are due by the time of its line.
-fn timed(line: &Text, used: usize, w: Word, k: Clock, id: u32, n: usize) -> Call {
-    let Time::At(now) = clock::read_time(line, used, w) else {
-        return Call::Unreadable;
+fn timed(line: &Text, w: Word, k: Clock, id: u32, n: usize) -> Logged {
+    let Time::At(now) = clock::read_time(line, w) else {
+        return Logged::Not;
     };
     match k.due(now) {
-        Due::Ticks(ticks, later) => Call::Frame(id, n, ticks, later),
-        Due::TooMany => Call::Unreadable,
+        Due::Ticks(ticks, later) => Logged::Frame(id, n, ticks, later),
+        Due::TooMany => Logged::Not,
     }
 }
 
-// (SECONDS.MICROS) IFACE ID#DATA.
-fn log(line: &Text, used: usize, w: Word, k: Clock, bytes: &mut Bytes) -> Call {
-    let face = words::next_word(line, used, w.to);
-    let last = words::next_word(line, used, face.to);
-    match forms::read_frame(line, used, last, bytes) {
-        Received::Frame(id, n) => timed(line, used, w, k, id, n),
-        Received::Not => Call::Unreadable,
-    }
-}
-
-// The line, by its first word, where `l` is what ticks are lent and `k` the clock before it.
-pub fn read(
-    line: &Text,
-    used: usize,
-    l: Lent,
-    k: Clock,
-    bytes: &mut Bytes,
-    v: &mut Voltages,
-    t: &mut Temperatures,
-) -> Call {
-    let w = words::next_word(line, used, 0);
-    let at = w.to;
-    match forms::kind_of(line, used, w) {
-        Kind::Settings => settings(line, used, at, bytes),
-        Kind::Readings => readings(line, used, at, l),
-        Kind::Voltages => voltages(line, used, at, l, v),
-        Kind::Temperatures => temperatures(line, used, at, l, t),
-        Kind::Buffer => buffer(line, used, at, l),
-        Kind::Tick => tick(line, used, at),
-        Kind::Frame => frame(line, used, w, k, bytes),
-        Kind::Log => log(line, used, w, k, bytes),
-        Kind::Write => write(line, used, at),
+// (SECONDS.MICROS) IFACE ID#DATA, where `k` is the clock before it.
+pub fn log(line: &Text, from: usize, k: Clock, bytes: &mut Bytes) -> Logged {
+    let w = words::next_word(line, from);
+    let face = words::next_word(line, w.to);
+    let last = words::skip(line, face.to);
+    match forms::read_frame(line, last, bytes) {
+        Received::Frame(id, n) => timed(line, w, k, id, n),
+        Received::Not => Logged::Not,
     }
 }

@@ -1,10 +1,10 @@
-// Lines of text: the input cut into lines, the words of a line, and the numbers and bytes that they are. A place past a line's end reads
-// as its newline, so that every function here takes any place. This crate may not know what a line means, nor any controller.
+// Lines of text: the input cut into lines, the words of a line, and the numbers and bytes that they are. A line is kept with the newline
+// that ends it, so that a walk along it stops there by itself. This crate may not know what a line means, nor any controller.
 pub mod lines;
 pub mod numbers;
 
-// The characters of a line: the most that one may have.
-pub type Text = [u8; 4096];
+// The characters of a line, at most 4096, and the newline past them.
+pub type Text = [u8; 4097];
 
 // A space, a tab or a carriage return: what stands between words.
 pub fn is_gap(b: u8) -> bool {
@@ -17,13 +17,8 @@ pub struct Word {
     pub to: usize,
 }
 
-pub fn byte_at(line: &Text, used: usize, at: usize) -> u8 {
-    if at < used {
-        if at < 4096 {
-            return line[at];
-        }
-    }
-    b'\n'
+pub fn byte_at(line: &Text, at: usize) -> u8 {
+    if at < 4097 { line[at] } else { b'\n' }
 }
 
 // The next place, up to the end of the longest line.
@@ -32,11 +27,10 @@ pub fn after(at: usize) -> usize {
 }
 
 // The first place from one on that is no gap.
-fn skip(line: &Text, used: usize, from: usize) -> usize {
+pub fn skip(line: &Text, from: usize) -> usize {
     let mut at = from;
     while at < 4096 {
-        let b = byte_at(line, used, at);
-        if !is_gap(b) {
+        if !is_gap(line[at]) {
             break;
         }
         at += 1;
@@ -45,10 +39,10 @@ fn skip(line: &Text, used: usize, from: usize) -> usize {
 }
 
 // The first place from one on where no word goes on.
-fn end(line: &Text, used: usize, from: usize) -> usize {
+pub fn end(line: &Text, from: usize) -> usize {
     let mut at = from;
     while at < 4096 {
-        let b = byte_at(line, used, at);
+        let b = line[at];
         if is_gap(b) {
             break;
         }
@@ -61,11 +55,11 @@ fn end(line: &Text, used: usize, from: usize) -> usize {
 }
 
 // The first word from a place on.
-pub fn next_word(line: &Text, used: usize, from: usize) -> Word {
-    let at = skip(line, used, from);
+pub fn next_word(line: &Text, from: usize) -> Word {
+    let at = skip(line, from);
     Word {
         from: at,
-        to: end(line, used, at),
+        to: end(line, at),
     }
 }
 
@@ -76,22 +70,22 @@ impl Word {
 }
 
 // No word from a place on.
-pub fn is_end(line: &Text, used: usize, from: usize) -> bool {
-    let w = next_word(line, used, from);
-    w.is_empty()
+pub fn is_end(line: &Text, from: usize) -> bool {
+    let at = skip(line, from);
+    byte_at(line, at) == b'\n'
 }
 
-// Whether a word is this one.
-pub fn is_word(line: &Text, used: usize, w: Word, s: &[u8]) -> bool {
+// Whether the word from a place on is this one.
+pub fn is_word(line: &Text, from: usize, s: &[u8]) -> bool {
     let n = s.len();
-    let mut at = w.from;
+    let mut at = from;
     let mut i = 0;
     while i < n {
-        if byte_at(line, used, at) != s[i] {
+        if byte_at(line, at) != s[i] {
             return false;
         }
         at = after(at);
         i += 1;
     }
-    at == w.to
+    end(line, at) == at
 }

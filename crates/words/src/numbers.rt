@@ -32,9 +32,9 @@ pub struct SignedFit {
     pub value: i16,
 }
 
-// Bytes in hex: how many, or none that can be read.
+// Bytes in hex: how many, and the place past them; or half of one.
 pub enum Hex {
-    Bytes(usize),
+    Bytes(usize, usize),
     Not,
 }
 
@@ -49,8 +49,8 @@ fn digit(b: u8) -> u8 {
 }
 
 impl Digits {
-    // One digit more. A value that passes what any line may hold stays there, and so does a count.
-    fn with(self, sixteen: bool, d: u8) -> Digits {
+    // One decimal digit more. A value that passes what any line may hold stays there, and so does a count.
+    fn with(self, d: u8) -> Digits {
         let mut next = self;
         next.at = after(self.at);
         if self.count < 100 {
@@ -58,19 +58,14 @@ impl Digits {
         }
         let x = self.value;
         if x < 0x1_0000_0000_0000 {
-            if sixteen {
-                next.value = x * 16 + d as u64;
-            } else {
-                next.value = x * 10 + d as u64;
-            }
+            next.value = x * 10 + d as u64;
         }
         next
     }
 }
 
-// The digits from a place on, decimal or hex.
-pub fn read_digits(line: &Text, used: usize, from: usize, sixteen: bool) -> Digits {
-    let base = if sixteen { 16 } else { 10 };
+// The decimal digits from a place on.
+pub fn read_digits(line: &Text, from: usize) -> Digits {
     let mut d = Digits {
         count: 0,
         value: 0,
@@ -78,24 +73,43 @@ pub fn read_digits(line: &Text, used: usize, from: usize, sixteen: bool) -> Digi
     };
     let mut turns = 4096u64;
     while 0 < turns {
-        let x = digit(byte_at(line, used, d.at));
-        if base <= x {
+        let x = digit(byte_at(line, d.at));
+        if 10 <= x {
             break;
         }
-        d = d.with(sixteen, x);
+        d = d.with(x);
         turns -= 1;
     }
     d
 }
 
+// The hex digits from a place on. The value is that of the last twelve.
+pub fn read_hex_digits(line: &Text, from: usize) -> Digits {
+    let mut value = 0u64;
+    let mut at = from;
+    while at < 4096 {
+        let x = digit(line[at]);
+        if 16 <= x {
+            break;
+        }
+        value = value % 0x1000_0000_0000 * 16 + x as u64;
+        at += 1;
+    }
+    Digits {
+        count: (at - from) as u64,
+        value: value,
+        at: at,
+    }
+}
+
 // The word as a decimal number with a sign or none.
-pub fn read_number(line: &Text, used: usize, w: Word) -> Number {
+pub fn read_number(line: &Text, w: Word) -> Number {
     let from = w.from;
-    let sign = byte_at(line, used, from);
+    let sign = byte_at(line, from);
     let minus = sign == b'-';
     let signed = minus | (sign == b'+');
     let start = if signed { after(from) } else { from };
-    let d = read_digits(line, used, start, false);
+    let d = read_digits(line, start);
     if d.count == 0 {
         return Number::Not;
     }
@@ -161,19 +175,16 @@ fn negative(x: u64) -> i16 {
     0 - y
 }
 
-// The bytes in hex from a place up to another.
-pub fn read_hex(line: &Text, used: usize, from: usize, to: usize, out: &mut Bytes) -> Hex {
+// The bytes in hex from a place on, as far as they go.
+pub fn read_hex(line: &Text, from: usize, out: &mut Bytes) -> Hex {
     let mut n = 0;
     let mut at = from;
     while at < 4096 {
-        if to <= at {
+        let a = digit(line[at]);
+        if 16 <= a {
             break;
         }
-        let a = digit(byte_at(line, used, at));
-        let b = digit(byte_at(line, used, at + 1));
-        if 16 <= a {
-            return Hex::Not;
-        }
+        let b = digit(line[at + 1]);
         if 16 <= b {
             return Hex::Not;
         }
@@ -184,5 +195,5 @@ pub fn read_hex(line: &Text, used: usize, from: usize, to: usize, out: &mut Byte
         n += 1;
         at += 2;
     }
-    Hex::Bytes(n)
+    Hex::Bytes(n, at)
 }

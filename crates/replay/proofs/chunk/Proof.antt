@@ -5,10 +5,12 @@ use Rattle.replay.proofs.chunk.Statement.{statement}
 use Rattle.replay.proofs.chunk.Tie as tie
 
 abbrev Inv-loop : tie.InvT-loop
-Inv-loop input kept₀ bytes₀ v₀ t₀ buf₀ o₀ got n r₀ l₀ i₀ kept bytes v t buf o r l i = n ≤ 65536
+Inv-loop input kept₀ bytes₀ v₀ t₀ buf₀ o₀ got count n r₀ used₀ rest₀ i₀ kept bytes v t buf o r used rest i =
+    n ≤ 65536
 
 abbrev μ-loop : tie.MeasureT-loop
-μ-loop input kept₀ bytes₀ v₀ t₀ buf₀ o₀ got n r₀ l₀ i₀ kept bytes v t buf o r l i = n - i
+μ-loop input kept₀ bytes₀ v₀ t₀ buf₀ o₀ got count n r₀ used₀ rest₀ i₀ kept bytes v t buf o r used rest i =
+    n - i
 
 read-requires : tie.Need-read-requires Inv-loop μ-loop
 read-requires c κs = search needs
@@ -16,11 +18,20 @@ read-requires c κs = search needs
 count-requires : tie.Need-count-requires Inv-loop μ-loop
 count-requires c κs = search needs
 
+or-end-requires : tie.Need-or-end-requires Inv-loop μ-loop
+or-end-requires c κs = search needs
+
 loop-holds : tie.Need-loop-holds Inv-loop μ-loop
 loop-holds c = search needs
 
+take-requires : tie.Need-take-requires Inv-loop μ-loop
+take-requires c κs = search needs
+
 element-copy-out-b : tie.Need-element-copy-out-b Inv-loop μ-loop
 element-copy-out-b c = search needs
+
+close-requires : tie.Need-close-requires Inv-loop μ-loop
+close-requires c κs = search needs
 
 ended-requires : tie.Need-ended-requires Inv-loop μ-loop
 ended-requires c κs = search needs
@@ -40,6 +51,12 @@ loop-less c = search needs
 loop-again : tie.Need-loop-again Inv-loop μ-loop
 loop-again c = search needs
 
+loop-less-2 : tie.Need-loop-less-2 Inv-loop μ-loop
+loop-less-2 c = search needs
+
+loop-again-2 : tie.Need-loop-again-2 Inv-loop μ-loop
+loop-again-2 c = search needs
+
 returns : tie.Need-returns Inv-loop μ-loop
 returns c = search needs
 
@@ -51,12 +68,17 @@ chunk-spec =
     μ-loop
     read-requires
     count-requires
+    or-end-requires
     loop-holds
+    take-requires
     element-copy-out-b
+    close-requires
     ended-requires
     start-requires
     with-requires
     add-i
     loop-less
     loop-again
+    loop-less-2
+    loop-again-2
     returns)

@@ -36,9 +36,6 @@ loop-less c = search needs
 loop-again : tie.Need-loop-again Inv-loop μ-loop
 loop-again c = search needs
 
-ended-requires : tie.Need-ended-requires Inv-loop μ-loop
-ended-requires c κs = search needs
-
 finish-requires : tie.Need-finish-requires Inv-loop μ-loop
 finish-requires c κs = search needs
 
@@ -60,6 +57,5 @@ main-spec =
     sub-turns
     loop-less
     loop-again
-    ended-requires
     finish-requires
     returns)

@@ -1,14 +1,14 @@
--- `words::is_word` is safe and ends: the letters that are left fall. Assumes nothing.
+-- `words::is_word` is safe and ends: the characters that are left fall. Assumes nothing.
 use borrow.Author.Needs.{needs}
 use Prim.Native.Nat.{_-_}
 use Rattle.words.proofs.is_word.Statement.{statement}
 use Rattle.words.proofs.is_word.Tie as tie
 
 abbrev Inv-loop : tie.InvT-loop
-Inv-loop line used w s n at₀ i₀ at i = Unit {0}
+Inv-loop line from s n at₀ i₀ at i = Unit {0}
 
 abbrev μ-loop : tie.MeasureT-loop
-μ-loop line used w s n at₀ i₀ at i = n - i
+μ-loop line from s n at₀ i₀ at i = n - i
 
 loop-holds : tie.Need-loop-holds Inv-loop μ-loop
 loop-holds c = search needs
@@ -34,6 +34,9 @@ loop-less c = search needs
 loop-again : tie.Need-loop-again Inv-loop μ-loop
 loop-again c = search needs
 
+end-requires : tie.Need-end-requires Inv-loop μ-loop
+end-requires c κs = search needs
+
 returns-2 : tie.Need-returns-2 Inv-loop μ-loop
 returns-2 c = search needs
 
@@ -51,4 +54,5 @@ is-word-spec =
     add-i
     loop-less
     loop-again
+    end-requires
     returns-2)

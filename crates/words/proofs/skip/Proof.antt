@@ -5,16 +5,16 @@ use Rattle.words.proofs.skip.Statement.{statement}
 use Rattle.words.proofs.skip.Tie as tie
 
 abbrev Inv-loop : tie.InvT-loop
-Inv-loop line used from at₀ at = Unit {0}
+Inv-loop line from at₀ at = Unit {0}
 
 abbrev μ-loop : tie.MeasureT-loop
-μ-loop line used from at₀ at = 4096 - at
+μ-loop line from at₀ at = 4096 - at
 
 loop-holds : tie.Need-loop-holds Inv-loop μ-loop
 loop-holds c = search needs
 
-byte-at-requires : tie.Need-byte-at-requires Inv-loop μ-loop
-byte-at-requires c κs = search needs
+element-copy-out-is-gap : tie.Need-element-copy-out-is-gap Inv-loop μ-loop
+element-copy-out-is-gap c = search needs
 
 is-gap-requires : tie.Need-is-gap-requires Inv-loop μ-loop
 is-gap-requires c κs = search needs
@@ -41,7 +41,7 @@ skip-spec =
     Inv-loop
     μ-loop
     loop-holds
-    byte-at-requires
+    element-copy-out-is-gap
     is-gap-requires
     add-at
     loop-less

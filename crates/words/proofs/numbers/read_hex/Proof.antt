@@ -5,25 +5,25 @@ use Rattle.words.proofs.numbers.read_hex.Statement.{statement}
 use Rattle.words.proofs.numbers.read_hex.Tie as tie
 
 abbrev Inv-loop : tie.InvT-loop
-Inv-loop line used from to out₀ n₀ at₀ out n at = Unit {0}
+Inv-loop line from out₀ n₀ at₀ out n at = Unit {0}
 
 abbrev μ-loop : tie.MeasureT-loop
-μ-loop line used from to out₀ n₀ at₀ out n at = 4096 - at
+μ-loop line from out₀ n₀ at₀ out n at = 4096 - at
 
 loop-holds : tie.Need-loop-holds Inv-loop μ-loop
 loop-holds c = search needs
 
-byte-at-requires : tie.Need-byte-at-requires Inv-loop μ-loop
-byte-at-requires c κs = search needs
+element-copy-out-digit : tie.Need-element-copy-out-digit Inv-loop μ-loop
+element-copy-out-digit c = search needs
 
 digit-requires : tie.Need-digit-requires Inv-loop μ-loop
 digit-requires c κs = search needs
 
-add-byte-at : tie.Need-add-byte-at Inv-loop μ-loop
-add-byte-at c = search needs
+add-digit : tie.Need-add-digit Inv-loop μ-loop
+add-digit c = search needs
 
-byte-at-requires-2 : tie.Need-byte-at-requires-2 Inv-loop μ-loop
-byte-at-requires-2 c κs = search needs
+element-copy-out-digit-2 : tie.Need-element-copy-out-digit-2 Inv-loop μ-loop
+element-copy-out-digit-2 c = search needs
 
 digit-requires-2 : tie.Need-digit-requires-2 Inv-loop μ-loop
 digit-requires-2 c κs = search needs
@@ -33,9 +33,6 @@ returns c = search needs
 
 returns-2 : tie.Need-returns-2 Inv-loop μ-loop
 returns-2 c = search needs
-
-returns-3 : tie.Need-returns-3 Inv-loop μ-loop
-returns-3 c = search needs
 
 mul-out : tie.Need-mul-out Inv-loop μ-loop
 mul-out c = search needs
@@ -58,11 +55,11 @@ loop-less c = search needs
 loop-again : tie.Need-loop-again Inv-loop μ-loop
 loop-again c = search needs
 
+returns-3 : tie.Need-returns-3 Inv-loop μ-loop
+returns-3 c = search needs
+
 returns-4 : tie.Need-returns-4 Inv-loop μ-loop
 returns-4 c = search needs
-
-returns-5 : tie.Need-returns-5 Inv-loop μ-loop
-returns-5 c = search needs
 
 pub read-hex-spec : {M : Type 1} → statement M
 read-hex-spec =
@@ -71,14 +68,13 @@ read-hex-spec =
     Inv-loop
     μ-loop
     loop-holds
-    byte-at-requires
+    element-copy-out-digit
     digit-requires
-    add-byte-at
-    byte-at-requires-2
+    add-digit
+    element-copy-out-digit-2
     digit-requires-2
     returns
     returns-2
-    returns-3
     mul-out
     add-out
     element-write-out
@@ -86,5 +82,5 @@ read-hex-spec =
     add-at
     loop-less
     loop-again
-    returns-4
-    returns-5)
+    returns-3
+    returns-4)
