@@ -23,7 +23,7 @@ use Rattle.controller.specs.Tick.{tickNumber, chargeFrames}
 use Rattle.controller.specs.Start.{freshOf}
 use Rattle.demands.specs.Machine.{Call, Read, Receive, Tick, Write, paperNext}
 
--- What can happen to a controller in use, and the controller after it: the calls of `Machine` that need a controller (`after-is`, proofs).
+-- What can happen to a controller in use, and the controller after it: the calls of `Machine` (`after-is`, proofs).
 -- a received frame, well formed or not; a tick, with all that it lends; settings written; a settings record read
 pub data Event : Type 0 where
   Came : ℕ → List ℕ → Event
@@ -99,7 +99,7 @@ heard st [] = []
 heard st (e ∷ es) = cond (reaches st e) (e ∷ heard st es) (heard st es)
 
 -- what is seen of a session: to a frame of its station the number answered, at a tick the charge frames sent (a refused tick sends none); and
--- the session after it
+-- the session after it; or that new settings were read
 pub data Moment : Type 0 where
   Told : ℕ → Session → Moment
   Sent : List Frame → Session → Moment

@@ -1,4 +1,5 @@
--- Every controller in use is a fresh one after a run of events: what is shown of runs from a fresh controller holds after any calls.
+-- "Over any sequence of calls from the start" (demand 2): every controller in use is a fresh one after a run of events, so what is shown of runs from
+-- a fresh controller holds after any calls.
 use mathlib.Core.Path.{_≡_}
 use mathlib.Core.List.{List}
 use Rattle.settings.specs.declared.Settings.{Settings}
@@ -7,7 +8,7 @@ use Rattle.controller.specs.Start.{freshOf}
 use Rattle.demands.specs.Machine.{Box, Off, On}
 use Rattle.demands.specs.Apart.{Event, afterAll}
 
--- the settings that were read last, and the events since
+-- settings of which a fresh controller was made, and the events since
 pub record Since (c : Controller) : Type 0 where
   pub settings : Settings
   pub events : List Event

@@ -122,7 +122,7 @@ endsFor TimeUp = false
 endsFor CellFull = false
 endsFor Count600 = true
 
--- which take a session out of Charging, to Error or to Stopping
+-- which take a session out of Charging, to Error or to Stopping; the two that end a session are of other states, and leave theirs
 unfoldable pub leavesFor : Why → Bool
 leavesFor GoesOn = false
 leavesFor Silence = true
