@@ -30,6 +30,8 @@ use Rattle.queries.specs.declared.Asked.{Asked}
 use Rattle.queries.specs.Asking.{askedOf}
 use Rattle.controller.specs.declared.Controller.{Controller}
 use Rattle.controller.specs.declared.Answer.{Answer}
+use Rattle.controller.specs.declared.Change.{Change}
+use Rattle.controller.specs.declared.Change.the-variants as change
 
 -- refused: the number, and the controller as it was
 abbrev pub refused : ℕ → Controller → Answer
@@ -120,3 +122,9 @@ frameTo c id s =
 -- a received frame's whole outcome: the number and the controller after it. It is lent no buffer that it could change
 abbrev pub FrameIs : Controller → ℕ → List ℕ → Answer → Type 0
 FrameIs c id s a = a ≡ frameTo c id s
+
+-- what a change says of a controller: its number, and the controller with that part new
+unfoldable pub answerOf : Controller → Change → Answer
+answerOf c (change.Nothing n) = refused n c
+answerOf c (change.Session t) = withSession c t
+answerOf c (change.Queries a) = withQueries c a

@@ -1,7 +1,8 @@
 // A received frame (01, "Numbers returned", 3 to 13, in numeric order).
 ghost use mathlib.Core.Path.{_≡_};
-ghost use Rattle.controller.specs.Frame.{isIdle, listed, mayCharge, refused, withSession, contentTaken, chargeTo, kindOf, queryTo, messageTo, knownTo, notCan, flagsSet, notForUs, badSource, FrameIs};
+ghost use Rattle.controller.specs.Frame.{isIdle, listed, mayCharge, refused, withSession, withQueries, answerOf, contentTaken, chargeTo, kindOf, queryTo, messageTo, knownTo, notCan, flagsSet, notForUs, badSource, FrameIs};
 use crate::Answer;
+use crate::Change;
 use crate::Controller;
 use charge_messages::Content;
 use messages::identifier::Identifier;
@@ -10,6 +11,7 @@ use messages::received::Charge;
 use messages::received::Message;
 use messages::received::Query;
 use messages::received::Recognized;
+use queries::Asked;
 use queries::Kind;
 use session::Taken;
 use settings::Stations;
@@ -72,13 +74,10 @@ fn bad_source(own: u8, p: Identifier) -> bool
 }
 
 impl Controller {
-    fn refused(self, number: u8) -> Answer
-        ensures { λ r. ⌜ r ≡ refused number self ⌝ }
+    fn refused(self, number: u8) -> Change
+        ensures { λ r. ⌜ answerOf self r ≡ refused number self ⌝ }
     {
-        Answer {
-            number: number,
-            controller: self,
-        }
+        Change::Nothing(number)
     }
 
     // 9: in Idle a listed station may speak, else the session's own alone.
@@ -92,6 +91,83 @@ impl Controller {
         } else {
             source == s.station
         }
+    }
+
+    // 10, then the session.
+    fn content_taken(self, source: u8, content: Content) -> Change
+        ensures { λ r. ⌜ answerOf self r ≡ contentTaken self source content ⌝ }
+    {
+        match content {
+            Content::Allowed(m) => {
+                let s = self.session;
+                Change::Session(s.message(self.settings, source, m))
+            }
+            Content::Refused(n) => self.refused(n),
+        }
+    }
+
+    fn charge_to(self, source: u8, k: Charge, bytes: &[u8]) -> Change
+        ensures { λ r. ⌜ answerOf self r ≡ chargeTo self source k (now (bytes .entry)) ⌝ }
+    {
+        if self.may_charge(source) {
+            self.content_taken(source, charge_messages::read_content(k, bytes))
+        } else {
+            self.refused(9)
+        }
+    }
+
+    fn query_to(self, source: u8, q: Query) -> Change
+        ensures { λ r. ⌜ answerOf self r ≡ queryTo self source q ⌝ }
+    {
+        let waiting = self.queries;
+        Change::Queries(waiting.ask(source, kind_of(q)))
+    }
+
+    fn message_to(self, source: u8, m: Message, bytes: &[u8]) -> Change
+        ensures { λ r. ⌜ answerOf self r ≡ messageTo self source m (now (bytes .entry)) ⌝ }
+    {
+        match m {
+            Message::Charge(k) => self.charge_to(source, k, bytes),
+            Message::Query(q) => self.query_to(source, q),
+        }
+    }
+
+    // 7 and 8.
+    fn known_to(self, source: u8, known: Recognized, bytes: &[u8]) -> Change
+        ensures { λ r. ⌜ answerOf self r ≡ knownTo self source known (now (bytes .entry)) ⌝ }
+    {
+        match known {
+            Recognized::As(m) => {
+                let row = m.row();
+                if bytes.len() < row.2 as usize {
+                    self.refused(8)
+                } else {
+                    self.message_to(source, m, bytes)
+                }
+            }
+            Recognized::Refused(n) => self.refused(n),
+        }
+    }
+
+    // ENTRY POINT, for a host that stores what a frame changes and nothing else. Any identifier, any data of any length, any controller.
+    pub fn change(self, id: u32, bytes: &[u8]) -> Change
+        ensures { λ r. ⌜ FrameIs self id (now (bytes .entry)) (answerOf self r) ⌝ }
+    {
+        if not_can(id, bytes) {
+            return self.refused(3);
+        }
+        let p = Identifier::parts(id);
+        if flags_set(p) {
+            return self.refused(4);
+        }
+        let own = self.settings.own;
+        if not_for_us(own, p) {
+            return self.refused(5);
+        }
+        if bad_source(own, p) {
+            return self.refused(6);
+        }
+        self.known_to(p.source, received::recognize(p), bytes)
     }
 
     fn with_session(self, t: Taken) -> Answer
@@ -112,40 +188,15 @@ impl Controller {
         }
     }
 
-    // 10, then the session.
-    fn content_taken(self, source: u8, content: Content) -> Answer
-        ensures { λ r. ⌜ r ≡ contentTaken self source content ⌝ }
+    fn with_queries(self, a: Asked) -> Answer
+        ensures { λ r. ⌜ r ≡ withQueries self a ⌝ }
     {
-        match content {
-            Content::Allowed(m) => {
-                let s = self.session;
-                self.with_session(s.message(self.settings, source, m))
-            }
-            Content::Refused(n) => self.refused(n),
-        }
-    }
-
-    fn charge_to(self, source: u8, k: Charge, bytes: &[u8]) -> Answer
-        ensures { λ r. ⌜ r ≡ chargeTo self source k (now (bytes .entry)) ⌝ }
-    {
-        if self.may_charge(source) {
-            self.content_taken(source, charge_messages::read_content(k, bytes))
-        } else {
-            self.refused(9)
-        }
-    }
-
-    fn query_to(self, source: u8, q: Query) -> Answer
-        ensures { λ r. ⌜ r ≡ queryTo self source q ⌝ }
-    {
-        let waiting = self.queries;
-        let asked = waiting.ask(source, kind_of(q));
         let settings = self.settings;
         let session = self.session;
         let beat = self.beat;
-        let next = asked.queries;
+        let next = a.queries;
         Answer {
-            number: asked.number,
+            number: a.number,
             controller: Controller {
                 settings: settings,
                 session: session,
@@ -155,29 +206,17 @@ impl Controller {
         }
     }
 
-    fn message_to(self, source: u8, m: Message, bytes: &[u8]) -> Answer
-        ensures { λ r. ⌜ r ≡ messageTo self source m (now (bytes .entry)) ⌝ }
+    // The number, and the controller as it is after a change.
+    fn changed(self, k: Change) -> Answer
+        ensures { λ r. ⌜ r ≡ answerOf self k ⌝ }
     {
-        match m {
-            Message::Charge(k) => self.charge_to(source, k, bytes),
-            Message::Query(q) => self.query_to(source, q),
-        }
-    }
-
-    // 7 and 8.
-    fn known_to(self, source: u8, known: Recognized, bytes: &[u8]) -> Answer
-        ensures { λ r. ⌜ r ≡ knownTo self source known (now (bytes .entry)) ⌝ }
-    {
-        match known {
-            Recognized::As(m) => {
-                let row = m.row();
-                if bytes.len() < row.2 as usize {
-                    self.refused(8)
-                } else {
-                    self.message_to(source, m, bytes)
-                }
-            }
-            Recognized::Refused(n) => self.refused(n),
+        match k {
+            Change::Nothing(n) => Answer {
+                number: n,
+                controller: self,
+            },
+            Change::Session(t) => self.with_session(t),
+            Change::Queries(a) => self.with_queries(a),
         }
     }
 
@@ -185,20 +224,6 @@ impl Controller {
     pub fn frame(self, id: u32, bytes: &[u8]) -> Answer
         ensures { λ r. ⌜ FrameIs self id (now (bytes .entry)) r ⌝ }
     {
-        if not_can(id, bytes) {
-            return self.refused(3);
-        }
-        let p = Identifier::parts(id);
-        if flags_set(p) {
-            return self.refused(4);
-        }
-        let own = self.settings.own;
-        if not_for_us(own, p) {
-            return self.refused(5);
-        }
-        if bad_source(own, p) {
-            return self.refused(6);
-        }
-        self.known_to(p.source, received::recognize(p), bytes)
+        self.changed(self.change(id, bytes))
     }
 }

@@ -2,8 +2,10 @@
 // session with the box of broadcasts and queries beside it, neither of which reads the other, and tests all that it is handed
 // (01, "Numbers returned"). It may not know anything new: every rule stands in a crate below.
 use broadcasts::beat::Beat;
+use queries::Asked;
 use queries::Queries;
 use session::Session;
+use session::Taken;
 use settings::Settings;
 
 pub mod frame;
@@ -22,6 +24,14 @@ pub struct Controller {
 pub enum Start {
     Made(Controller),
     Refused(u8),
+}
+
+// What a received frame changes, with its number: nothing, the session, or the waiting queries. The rest of the controller stays, so
+// that a host that holds one need store no more than this.
+pub enum Change {
+    Nothing(u8),
+    Session(Taken),
+    Queries(Asked),
 }
 
 // What a received frame gives: the number, and the controller as it is then.

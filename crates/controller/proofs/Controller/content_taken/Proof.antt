@@ -1,6 +1,5 @@
 -- `controller::Controller::content_taken` meets its contract. Assumes nothing.
-use mathlib.Core.Path.{_∙_}
-use Rattle.controller.specs.Frame.{contentTaken}
+use Rattle.controller.specs.Frame.{contentTaken, answerOf}
 use borrow.Author.Needs.{needs}
 use Rattle.controller.proofs.Controller.content_taken.Statement.{statement}
 use Rattle.controller.proofs.Controller.content_taken.Tie as tie
@@ -11,9 +10,6 @@ enum-known-content c = search needs
 message-requires : tie.Need-message-requires
 message-requires c κs = search needs
 
-with-session-requires : tie.Need-with-session-requires
-with-session-requires c κs = search needs
-
 enum-known-content-2 : tie.Need-enum-known-content-2
 enum-known-content-2 c = search needs
 
@@ -21,8 +17,8 @@ refused-requires : tie.Need-refused-requires
 refused-requires c κs = search needs
 
 returns : tie.Need-returns
-unfolding contentTaken
-returns c = rw (c .before .before .before .before .content .given .1) (c .with-session .ensures ∙ rw (c .before .message .ensures))
+unfolding contentTaken answerOf
+returns c = rw (c .before .before .before .content .given .1, c .message .ensures)
 
 returns-2 : tie.Need-returns-2
 unfolding contentTaken
@@ -34,7 +30,6 @@ content-taken-spec =
     (tie.spec
     enum-known-content
     message-requires
-    with-session-requires
     enum-known-content-2
     refused-requires
     returns
