@@ -1,44 +1,91 @@
-// The calls where there may be no controller yet, or one is to be made.
-use crate::Unit;
+// The calls, where there may be no controller yet, or one is to be made.
+use crate::heard;
+use crate::next;
 use crate::standing;
 use crate::started;
+use crate::ticked;
+use crate::written;
+use broadcasts::beat::Beat;
+use controller::Change;
 use controller::Controller;
 use controller::Start;
 use printing::Out;
+use queries::Queries;
 use reports::Buffer;
 use reports::Standing;
 use scripts::lent::Lent;
 use scripts::lent::Temperatures;
 use scripts::lent::Voltages;
+use session::Session;
+use settings::Settings;
+use settings::Stations;
+use settings::Versions;
+use units::HundredthVolts;
+use units::TenthVolts;
 use words::numbers::Bytes;
 
-// The controller in use, or none.
-pub enum Held {
-    Made(Controller),
-    Nothing,
-}
-
-// What is held, the ticks that it has accepted, and the free place of the output.
+// Whether there is a controller in use, that controller, the ticks that it has accepted, and the free place of the output.
 pub struct Holder {
-    pub held: Held,
+    pub made: bool,
+    pub controller: Controller,
     pub accepted: u64,
     pub out: usize,
 }
 
-// The unit in use.
-fn of(u: Unit) -> Holder {
-    let c = u.controller;
-    Holder {
-        held: Held::Made(c),
-        accepted: u.accepted,
-        out: u.out,
+// What a frame changed of the controller, and the free place of the output then.
+pub struct Framed {
+    pub change: Change,
+    pub out: usize,
+}
+
+fn no_settings() -> Settings {
+    Settings {
+        own: 0,
+        cell: HundredthVolts(0),
+        current: 0,
+        pack: TenthVolts(0),
+        temperature: 0,
+        stations: Stations {
+            count: 0,
+            first: 0,
+            second: 0,
+            third: 0,
+            fourth: 0,
+        },
+        versions: Versions {
+            first: 0,
+            second: 0,
+            third: 0,
+            fourth: 0,
+            fifth: 0,
+        },
     }
+}
+
+// What stands in the place of a controller until one is made; no call reaches it.
+fn no_controller() -> Controller {
+    Controller {
+        settings: no_settings(),
+        session: Session::idle(),
+        beat: Beat::first(),
+        queries: Queries::none(),
+    }
+}
+
+// What a frame that changes a session prints: its number, and the session's standing where it is another.
+fn print_taken(c: Controller, number: u8, s: Session, o: &mut Out, at: usize) -> usize {
+    let before = standing(c);
+    let state = s.state;
+    let now = Standing::of(state, s.station);
+    let a = printing::numbered(o, at, b"frame ", number as u64);
+    now.print_if_new(before, o, a)
 }
 
 impl Holder {
     pub fn start() -> Holder {
         Holder {
-            held: Held::Nothing,
+            made: false,
+            controller: no_controller(),
             accepted: 0,
             out: 0,
         }
@@ -50,17 +97,8 @@ impl Holder {
         h
     }
 
-    fn unit(self, c: Controller) -> Unit {
-        Unit {
-            controller: c,
-            accepted: self.accepted,
-            out: self.out,
-        }
-    }
-
-    fn absent(self, o: &mut Out) -> Holder {
-        let at = printing::text(o, self.out, b"no controller\n");
-        self.with_out(at)
+    fn absent(self, o: &mut Out) -> usize {
+        printing::text(o, self.out, b"no controller\n")
     }
 
     // A line that asks for nothing known.
@@ -71,18 +109,10 @@ impl Holder {
 
     // Where there is no controller, that is said.
     pub fn asked(self, o: &mut Out) -> Holder {
-        let held = self.held;
-        match held {
-            Held::Made(_) => self,
-            Held::Nothing => self.absent(o),
-        }
-    }
-
-    fn standing(self) -> Standing {
-        let held = self.held;
-        match held {
-            Held::Made(c) => standing(c),
-            Held::Nothing => Standing::idle(),
+        if self.made {
+            self
+        } else {
+            self.with_out(self.absent(o))
         }
     }
 
@@ -91,11 +121,13 @@ impl Holder {
         match started(bytes, n) {
             Start::Made(c) => {
                 let a = printing::numbered(o, self.out, b"settings ", 0);
+                let before = standing(self.controller);
                 let now = standing(c);
                 Holder {
-                    held: Held::Made(c),
+                    made: true,
+                    controller: c,
                     accepted: 0,
-                    out: now.print_if_new(self.standing(), o, a),
+                    out: now.print_if_new(before, o, a),
                 }
             }
             Start::Refused(k) => {
@@ -105,14 +137,76 @@ impl Holder {
         }
     }
 
-    pub fn frame(self, id: u32, bytes: &Bytes, n: usize, o: &mut Out) -> Holder {
-        let held = self.held;
-        match held {
-            Held::Made(c) => {
-                let u = self.unit(c);
-                of(u.frame(id, bytes, n, o))
+    // What a frame changes: the controller is not given back, since most of it stays as it is.
+    pub fn frame(self, id: u32, bytes: &Bytes, n: usize, o: &mut Out) -> Framed {
+        if !self.made {
+            return Framed {
+                change: Change::Nothing(0),
+                out: self.absent(o),
+            };
+        }
+        let c = self.controller;
+        let change = heard(c, id, bytes, n);
+        let at = self.out;
+        let next = match change {
+            Change::Nothing(k) => printing::numbered(o, at, b"frame ", k as u64),
+            Change::Session(t) => print_taken(c, t.number, t.session, o, at),
+            Change::Queries(k) => printing::numbered(o, at, b"frame ", k.number as u64),
+        };
+        Framed {
+            change: change,
+            out: next,
+        }
+    }
+
+    // The controller with what a frame changed.
+    pub fn after(self, f: Framed) -> Holder {
+        let mut h = self;
+        let mut c = self.controller;
+        let change = f.change;
+        match change {
+            Change::Nothing(_) => {}
+            Change::Session(t) => {
+                let s = t.session;
+                c.session = s;
+                h.controller = c;
             }
-            Held::Nothing => self.absent(o),
+            Change::Queries(a) => {
+                let q = a.queries;
+                c.queries = q;
+                h.controller = c;
+            }
+        }
+        h.out = f.out;
+        h
+    }
+
+    fn tick(
+        self,
+        l: Lent,
+        v: &Voltages,
+        t: &Temperatures,
+        buf: &mut Buffer,
+        o: &mut Out,
+    ) -> Holder {
+        let c = self.controller;
+        let before = standing(c);
+        let k = ticked(c, l, v, t, buf);
+        let d = k.controller;
+        let now = standing(d);
+        let mut accepted = self.accepted;
+        let mut a = self.out;
+        if k.number == 0 {
+            a = reports::print_frames(buf, k.bytes, accepted, o, a);
+            accepted = next(accepted);
+        } else {
+            a = printing::numbered(o, a, b"tick ", k.number as u64);
+        }
+        Holder {
+            made: true,
+            controller: d,
+            accepted: accepted,
+            out: now.print_if_new(before, o, a),
         }
     }
 
@@ -126,24 +220,22 @@ impl Holder {
         buf: &mut Buffer,
         o: &mut Out,
     ) -> Holder {
-        let held = self.held;
-        match held {
-            Held::Made(c) => {
-                let u = self.unit(c);
-                of(u.ticks(n, l, v, t, buf, o))
-            }
-            Held::Nothing => self,
+        let mut h = self;
+        let mut left = if self.made { n } else { 0 };
+        while 0 < left {
+            h = h.tick(l, v, t, buf, o);
+            left -= 1;
         }
+        h
     }
 
+    // A write leaves the controller as it is.
     pub fn write(self, n: usize, buf: &mut Buffer, o: &mut Out) -> Holder {
-        let held = self.held;
-        match held {
-            Held::Made(c) => {
-                let u = self.unit(c);
-                self.with_out(u.write(n, buf, o))
-            }
-            Held::Nothing => self.absent(o),
+        if self.made {
+            let w = written(self.controller, buf, n);
+            self.with_out(reports::print_write(w.number, w.bytes, buf, o, self.out))
+        } else {
+            self.with_out(self.absent(o))
         }
     }
 }

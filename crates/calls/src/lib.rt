@@ -1,7 +1,7 @@
 // The calls of the controller, and the lines that say what each answered, sent and entered. Slices of what is lent are cut here, and all
 // that the controller returns is printed. This crate may not know how a script is written, nor any rule of the paper.
 ghost use Prim.Native.Nat.{_≤_};
-use controller::Answer;
+use controller::Change;
 use controller::Controller;
 use controller::Start;
 use controller::Ticked;
@@ -14,13 +14,6 @@ use scripts::lent::Voltages;
 use words::numbers::Bytes;
 
 pub mod holder;
-
-// The controller in use, the ticks that it has accepted, and the free place of the output.
-pub struct Unit {
-    pub controller: Controller,
-    pub accepted: u64,
-    pub out: usize,
-}
 
 fn least(a: usize, b: usize) -> usize
     ensures { λ r. ⌜ r ≤ b ⌝ }
@@ -42,9 +35,9 @@ fn started(bytes: &[u8], n: usize) -> Start {
 }
 
 // A frame with the first n bytes as its data.
-fn answered(c: Controller, id: u32, bytes: &[u8], n: usize) -> Answer {
+fn heard(c: Controller, id: u32, bytes: &[u8], n: usize) -> Change {
     let k = least(n, bytes.len());
-    c.frame(id, &bytes[0..k])
+    c.change(id, &bytes[0..k])
 }
 
 // A tick that is lent the first so many of each.
@@ -64,66 +57,4 @@ fn written(c: Controller, buf: &mut [u8], n: usize) -> settings::Written {
 // The next number; the last of all stays.
 pub fn next(n: u64) -> u64 {
     if n < u64::MAX { n + 1 } else { n }
-}
-
-impl Unit {
-    pub fn frame(self, id: u32, bytes: &Bytes, n: usize, o: &mut Out) -> Unit {
-        let c = self.controller;
-        let before = standing(c);
-        let r = answered(c, id, bytes, n);
-        let a = printing::numbered(o, self.out, b"frame ", r.number as u64);
-        let d = r.controller;
-        let now = standing(d);
-        Unit {
-            controller: d,
-            accepted: self.accepted,
-            out: now.print_if_new(before, o, a),
-        }
-    }
-
-    fn tick(self, l: Lent, v: &Voltages, t: &Temperatures, buf: &mut Buffer, o: &mut Out) -> Unit {
-        let c = self.controller;
-        let before = standing(c);
-        let k = ticked(c, l, v, t, buf);
-        let d = k.controller;
-        let now = standing(d);
-        let mut accepted = self.accepted;
-        let mut a = self.out;
-        if k.number == 0 {
-            a = reports::print_frames(buf, k.bytes, accepted, o, a);
-            accepted = next(accepted);
-        } else {
-            a = printing::numbered(o, a, b"tick ", k.number as u64);
-        }
-        Unit {
-            controller: d,
-            accepted: accepted,
-            out: now.print_if_new(before, o, a),
-        }
-    }
-
-    // So many ticks.
-    pub fn ticks(
-        self,
-        n: u64,
-        l: Lent,
-        v: &Voltages,
-        t: &Temperatures,
-        buf: &mut Buffer,
-        o: &mut Out,
-    ) -> Unit {
-        let mut u = self;
-        let mut left = n;
-        while 0 < left {
-            u = u.tick(l, v, t, buf, o);
-            left -= 1;
-        }
-        u
-    }
-
-    // The place past what is printed: a write leaves the controller as it is.
-    pub fn write(self, n: usize, buf: &mut Buffer, o: &mut Out) -> usize {
-        let w = written(self.controller, buf, n);
-        reports::print_write(w.number, w.bytes, buf, o, self.out)
-    }
 }

@@ -1,15 +1,13 @@
-// A run: what is kept from line to line, and what a line asks for, carried out. Each kind of line takes and gives back only what it may
-// change. This crate may not know how the input is cut into lines, nor any rule of the paper.
+// A run: what is kept from line to line, and what a line asks for, carried out. This crate may not know how the input is cut into lines,
+// how a line is written, nor any rule of the paper.
 use calls::holder::Holder;
 use printing::Out;
 use reports::Buffer;
+use scripts::Asked;
 use scripts::Lending;
-use scripts::Logged;
 use scripts::clock::Clock;
-use scripts::forms;
-use scripts::forms::Counted;
-use scripts::forms::Kind;
-use scripts::forms::Received;
+use scripts::clock::Due;
+use scripts::forms::Lend;
 use scripts::lent::Lent;
 use scripts::lent::Temperatures;
 use scripts::lent::Voltages;
@@ -26,123 +24,40 @@ pub struct Run {
     pub number: u64,
 }
 
-// A received frame.
-fn frame(
-    h: Holder,
-    number: u64,
-    line: &Text,
-    from: usize,
-    bytes: &mut Bytes,
-    o: &mut Out,
-) -> Holder {
-    match forms::read_frame(line, from, bytes) {
-        Received::Frame(id, n) => h.frame(id, bytes, n, o),
-        Received::Not => h.unreadable(number, o),
-    }
-}
-
-fn settings(
-    h: Holder,
-    number: u64,
-    line: &Text,
-    from: usize,
-    bytes: &mut Bytes,
-    o: &mut Out,
-) -> Holder {
-    match scripts::settings(line, from, bytes) {
-        Counted::Of(n) => h.settings(bytes, n, o),
-        Counted::Not => h.unreadable(number, o),
-    }
-}
-
-fn write(
-    h: Holder,
-    number: u64,
-    line: &Text,
-    from: usize,
-    buf: &mut Buffer,
-    o: &mut Out,
-) -> Holder {
-    match scripts::write(line, from) {
-        Counted::Of(n) => h.write(n, buf, o),
-        Counted::Not => h.unreadable(number, o),
-    }
-}
-
-fn tick(
-    h: Holder,
-    number: u64,
-    line: &Text,
-    from: usize,
-    l: Lent,
-    v: &Voltages,
-    t: &Temperatures,
-    buf: &mut Buffer,
-    o: &mut Out,
-) -> Holder {
-    let f = scripts::tick(line, from);
-    if f.good {
-        let g = h.asked(o);
-        g.ticks(f.value, l, v, t, buf, o)
-    } else {
-        h.unreadable(number, o)
-    }
-}
-
-// A line of a log, and the clock after it.
+// What is held after a frame of a log, and the clock then.
 struct Later {
     pub holder: Holder,
     pub clock: Clock,
 }
 
-fn log(
+// A frame of a log, after the ticks that are due by its time; where these are too many to be run, the line is unreadable.
+fn logged(
     h: Holder,
     number: u64,
     k: Clock,
-    line: &Text,
-    from: usize,
+    now: u64,
+    id: u32,
+    n: usize,
+    bytes: &Bytes,
     l: Lent,
-    bytes: &mut Bytes,
     v: &Voltages,
     t: &Temperatures,
     buf: &mut Buffer,
     o: &mut Out,
 ) -> Later {
-    match scripts::log(line, from, k, bytes) {
-        Logged::Frame(id, n, ticks, later) => {
+    match k.due(now) {
+        Due::Ticks(ticks, later) => {
             let g = h.ticks(ticks, l, v, t, buf, o);
+            let f = g.frame(id, bytes, n, o);
             Later {
-                holder: g.frame(id, bytes, n, o),
+                holder: g.after(f),
                 clock: later,
             }
         }
-        Logged::Not => Later {
+        Due::TooMany => Later {
             holder: h.unreadable(number, o),
             clock: k,
         },
-    }
-}
-
-// A line that changes neither what ticks are lent nor the clock.
-fn call(
-    h: Holder,
-    kind: Kind,
-    number: u64,
-    line: &Text,
-    from: usize,
-    l: Lent,
-    bytes: &mut Bytes,
-    v: &Voltages,
-    t: &Temperatures,
-    buf: &mut Buffer,
-    o: &mut Out,
-) -> Holder {
-    match kind {
-        Kind::Frame => frame(h, number, line, from, bytes, o),
-        Kind::Tick => tick(h, number, line, from, l, v, t, buf, o),
-        Kind::Settings => settings(h, number, line, from, bytes, o),
-        Kind::Write => write(h, number, line, from, buf, o),
-        _ => h.unreadable(number, o),
     }
 }
 
@@ -156,7 +71,8 @@ impl Run {
         }
     }
 
-    // The end of a line.
+    // The end of a line. What is held is changed in one local, whose address the calls take, so that it is not taken apart and put
+    // together again at each line.
     pub fn ended(
         self,
         rest: Rest,
@@ -168,33 +84,41 @@ impl Run {
         o: &mut Out,
     ) -> Run {
         let mut r = self;
-        let h = self.holder;
-        let l = self.lent;
+        let mut h = self.holder;
         let number = calls::next(self.number);
         r.number = number;
-        let from = words::skip(line, 0);
-        let kind = forms::kind_of(line, from, rest);
-        match kind {
-            Kind::Ignored => {}
-            Kind::Lends(what) => match scripts::lent_by(what, line, from, l, v, t) {
-                Lending::Of(lent) => {
-                    r.lent = lent;
+        match scripts::read_line(line, rest, bytes) {
+            Asked::Nothing => {}
+            Asked::Frame(id, n) => {
+                let f = h.frame(id, bytes, n, o);
+                h = h.after(f);
+            }
+            Asked::Ticks(n) => {
+                let l = self.lent;
+                h = h.asked(o);
+                h = h.ticks(n, l, v, t, buf, o);
+            }
+            Asked::Lends(what) => {
+                let l = self.lent;
+                match scripts::lent_by(what, line, l, v, t) {
+                    Lending::Of(l) => r.lent = l,
+                    Lending::Not => h = h.unreadable(number, o),
                 }
-                Lending::Not => {
-                    r.holder = h.unreadable(number, o);
-                }
-            },
-            Kind::Log => {
-                let later = log(h, number, self.clock, line, from, l, bytes, v, t, buf, o);
+            }
+            Asked::Logged(now, id, n) => {
+                let l = self.lent;
+                let k = self.clock;
+                let later = logged(h, number, k, now, id, n, bytes, l, v, t, buf, o);
                 let g = later.holder;
-                let k = later.clock;
-                r.holder = g;
-                r.clock = k;
+                let past = later.clock;
+                h = g;
+                r.clock = past;
             }
-            _ => {
-                r.holder = call(h, kind, number, line, from, l, bytes, v, t, buf, o);
-            }
+            Asked::Settings(n) => h = h.settings(bytes, n, o),
+            Asked::Write(n) => h = h.write(n, buf, o),
+            Asked::Unknown => h = h.unreadable(number, o),
         }
+        r.holder = h;
         r
     }
 }

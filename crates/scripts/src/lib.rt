@@ -10,10 +10,9 @@
 //   write N                         the settings in use, into a buffer of N bytes
 // Besides, what ticks are lent, and which are due by a candump log's clock. This crate may not know any controller, nor what a call comes
 // to.
-use clock::Clock;
-use clock::Due;
 use clock::Time;
 use forms::Counted;
+use forms::Kind;
 use forms::Lend;
 use forms::Received;
 use lent::Lent;
@@ -21,14 +20,27 @@ use lent::Temperatures;
 use lent::Voltages;
 use tables::Table;
 use words::Text;
-use words::Word;
+use words::lines::Rest;
 use words::numbers::Bytes;
-use words::numbers::Fit;
 
 pub mod clock;
 pub mod forms;
 pub mod lent;
 pub mod tables;
+
+// What a line asks for: nothing, a settings record of so many bytes, that later ticks are lent something else, so many ticks, a received
+// frame (its identifier and the number of its data bytes), a frame of a log at its time, or the settings in use written into so many
+// bytes. One that cannot be read asks for nothing known.
+pub enum Asked {
+    Nothing,
+    Settings(usize),
+    Lends(Lend),
+    Ticks(u64),
+    Frame(u32, usize),
+    Logged(u64, u32, usize),
+    Write(usize),
+    Unknown,
+}
 
 // What each later tick is lent, by a line that sets it.
 pub enum Lending {
@@ -36,19 +48,16 @@ pub enum Lending {
     Not,
 }
 
-// A frame of a log, the ticks that are due before it, and the clock then.
-pub enum Logged {
-    Frame(u32, usize, u64, Clock),
-    Not,
-}
-
 // The longest buffer that a line may ask for.
 const MOST: u64 = 4096;
 
-// The bytes of a settings record.
-pub fn settings(line: &Text, from: usize, bytes: &mut Bytes) -> Counted {
+// A settings record.
+fn settings(line: &Text, from: usize, bytes: &mut Bytes) -> Asked {
     let at = words::end(line, from);
-    forms::record(line, words::skip(line, at), bytes)
+    match forms::record(line, words::skip(line, at), bytes) {
+        Counted::Of(n) => Asked::Settings(n),
+        Counted::Not => Asked::Unknown,
+    }
 }
 
 fn readings(line: &Text, at: usize, l: Lent) -> Lending {
@@ -99,11 +108,11 @@ fn buffer(line: &Text, at: usize, l: Lent) -> Lending {
 pub fn lent_by(
     what: Lend,
     line: &Text,
-    from: usize,
     l: Lent,
     v: &mut Voltages,
     t: &mut Temperatures,
 ) -> Lending {
+    let from = words::skip(line, 0);
     let at = words::end(line, from);
     match what {
         Lend::Readings => readings(line, at, l),
@@ -113,39 +122,58 @@ pub fn lent_by(
     }
 }
 
-// The length of the buffer to write into.
-pub fn write(line: &Text, from: usize) -> Counted {
+// The settings in use, into a buffer of a length.
+fn write(line: &Text, from: usize) -> Asked {
     let f = tables::only(line, words::end(line, from), MOST);
     if f.good {
-        Counted::Of(place(f.value))
+        Asked::Write(place(f.value))
     } else {
-        Counted::Not
+        Asked::Unknown
     }
 }
 
 // So many ticks.
-pub fn tick(line: &Text, from: usize) -> Fit {
-    tables::one_or(line, words::end(line, from), 10_000_000)
-}
-
-// A frame after the ticks that are due by the time of its line.
-fn timed(line: &Text, w: Word, k: Clock, id: u32, n: usize) -> Logged {
-    let Time::At(now) = clock::read_time(line, w) else {
-        return Logged::Not;
-    };
-    match k.due(now) {
-        Due::Ticks(ticks, later) => Logged::Frame(id, n, ticks, later),
-        Due::TooMany => Logged::Not,
+fn ticks(line: &Text, from: usize) -> Asked {
+    let f = tables::one_or(line, words::end(line, from), 10_000_000);
+    if f.good {
+        Asked::Ticks(f.value)
+    } else {
+        Asked::Unknown
     }
 }
 
-// (SECONDS.MICROS) IFACE ID#DATA, where `k` is the clock before it.
-pub fn log(line: &Text, from: usize, k: Clock, bytes: &mut Bytes) -> Logged {
+fn frame(line: &Text, from: usize, bytes: &mut Bytes) -> Asked {
+    match forms::read_frame(line, from, bytes) {
+        Received::Frame(id, n) => Asked::Frame(id, n),
+        Received::Not => Asked::Unknown,
+    }
+}
+
+// (SECONDS.MICROS) IFACE ID#DATA.
+fn log(line: &Text, from: usize, bytes: &mut Bytes) -> Asked {
     let w = words::next_word(line, from);
     let face = words::next_word(line, w.to);
     let last = words::skip(line, face.to);
-    match forms::read_frame(line, last, bytes) {
-        Received::Frame(id, n) => timed(line, w, k, id, n),
-        Received::Not => Logged::Not,
+    let Received::Frame(id, n) = forms::read_frame(line, last, bytes) else {
+        return Asked::Unknown;
+    };
+    match clock::read_time(line, w) {
+        Time::At(now) => Asked::Logged(now, id, n),
+        Time::Not => Asked::Unknown,
+    }
+}
+
+// What a line asks for, where `rest` is what is known of it past the characters that are kept. The bytes that it gives are laid into `bytes`.
+pub fn read_line(line: &Text, rest: Rest, bytes: &mut Bytes) -> Asked {
+    let from = words::skip(line, 0);
+    match forms::kind_of(line, from, rest) {
+        Kind::Ignored => Asked::Nothing,
+        Kind::Settings => settings(line, from, bytes),
+        Kind::Lends(what) => Asked::Lends(what),
+        Kind::Tick => ticks(line, from),
+        Kind::Frame => frame(line, from, bytes),
+        Kind::Log => log(line, from, bytes),
+        Kind::Write => write(line, from),
+        Kind::Unknown => Asked::Unknown,
     }
 }

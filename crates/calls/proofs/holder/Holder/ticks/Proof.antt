@@ -1,13 +1,13 @@
--- `calls::Unit::ticks` is safe and ends: the ticks that are left fall. Assumes nothing.
+-- `calls::holder::Holder::ticks` is safe and ends: the ticks that are left fall. Assumes nothing.
 use borrow.Author.Needs.{needs}
-use Rattle.calls.proofs.Unit.ticks.Statement.{statement}
-use Rattle.calls.proofs.Unit.ticks.Tie as tie
+use Rattle.calls.proofs.holder.Holder.ticks.Statement.{statement}
+use Rattle.calls.proofs.holder.Holder.ticks.Tie as tie
 
 abbrev Inv-loop : tie.InvT-loop
-Inv-loop n l v t buf₀ o₀ u₀ left₀ buf o u left = Unit {0}
+Inv-loop n l v t buf₀ o₀ h₀ left₀ buf o h left = Unit {0}
 
 abbrev μ-loop : tie.MeasureT-loop
-μ-loop n l v t buf₀ o₀ u₀ left₀ buf o u left = left
+μ-loop n l v t buf₀ o₀ h₀ left₀ buf o h left = left
 
 loop-holds : tie.Need-loop-holds Inv-loop μ-loop
 loop-holds c = search needs
