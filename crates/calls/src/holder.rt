@@ -1,6 +1,7 @@
 // The calls, where there may be no controller yet, or one is to be made.
 use crate::heard;
 use crate::next;
+use crate::session_standing;
 use crate::standing;
 use crate::started;
 use crate::ticked;
@@ -72,13 +73,12 @@ fn no_controller() -> Controller {
     }
 }
 
-// What a frame that changes a session prints: its number, and the session's standing where it is another.
-fn print_taken(c: Controller, number: u8, s: Session, o: &mut Out, at: usize) -> usize {
-    let before = standing(c);
-    let state = s.state;
-    let now = Standing::of(state, s.station);
-    let a = printing::numbered(o, at, b"frame ", number as u64);
-    now.print_if_new(before, o, a)
+fn number(k: Change) -> u8 {
+    match k {
+        Change::Nothing(n) => n,
+        Change::Session(t) => t.number,
+        Change::Queries(a) => a.number,
+    }
 }
 
 impl Holder {
@@ -120,14 +120,17 @@ impl Holder {
     pub fn settings(self, bytes: &Bytes, n: usize, o: &mut Out) -> Holder {
         match started(bytes, n) {
             Start::Made(c) => {
-                let a = printing::numbered(o, self.out, b"settings ", 0);
+                let mut a = printing::numbered(o, self.out, b"settings ", 0);
                 let before = standing(self.controller);
                 let now = standing(c);
+                if !now.same(before) {
+                    a = now.print(o, a);
+                }
                 Holder {
                     made: true,
                     controller: c,
                     accepted: 0,
-                    out: now.print_if_new(before, o, a),
+                    out: a,
                 }
             }
             Start::Refused(k) => {
@@ -147,15 +150,17 @@ impl Holder {
         }
         let c = self.controller;
         let change = heard(c, id, bytes, n);
-        let at = self.out;
-        let next = match change {
-            Change::Nothing(k) => printing::numbered(o, at, b"frame ", k as u64),
-            Change::Session(t) => print_taken(c, t.number, t.session, o, at),
-            Change::Queries(k) => printing::numbered(o, at, b"frame ", k.number as u64),
-        };
+        let mut a = reports::print_answer(number(change), o, self.out);
+        if let Change::Session(t) = change {
+            let s = t.session;
+            let now = session_standing(s);
+            if !now.same(standing(c)) {
+                a = now.print(o, a);
+            }
+        }
         Framed {
             change: change,
-            out: next,
+            out: a,
         }
     }
 
@@ -202,11 +207,14 @@ impl Holder {
         } else {
             a = printing::numbered(o, a, b"tick ", k.number as u64);
         }
+        if !now.same(before) {
+            a = now.print(o, a);
+        }
         Holder {
             made: true,
             controller: d,
             accepted: accepted,
-            out: now.print_if_new(before, o, a),
+            out: a,
         }
     }
 

@@ -11,6 +11,7 @@ use reports::Standing;
 use scripts::lent::Lent;
 use scripts::lent::Temperatures;
 use scripts::lent::Voltages;
+use session::Session;
 use words::numbers::Bytes;
 
 pub mod holder;
@@ -21,11 +22,14 @@ fn least(a: usize, b: usize) -> usize
     if a < b { a } else { b }
 }
 
-// A session's standing.
-fn standing(c: Controller) -> Standing {
-    let s = c.session;
+fn session_standing(s: Session) -> Standing {
     let state = s.state;
     Standing::of(state, s.station)
+}
+
+// The standing of a controller's session.
+fn standing(c: Controller) -> Standing {
+    session_standing(c.session)
 }
 
 // A settings record of the first n bytes.

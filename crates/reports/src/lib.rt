@@ -1,5 +1,5 @@
 // What a controller sent, wrote and entered, as lines: the frames of a tick as candump writes them, a settings record, and a session's
-// standing where it is another than before. This crate may not know any controller, nor why a frame was sent.
+// standing. This crate may not know any controller, nor why a frame was sent.
 ghost use Prim.Native.Nat.{_+_, _≤_, _<_};
 use printing::Out;
 use states::State;
@@ -60,15 +60,13 @@ impl Standing {
         }
     }
 
-    fn same(self, other: Standing) -> bool {
+    // Idle is with no station.
+    pub fn same(self, other: Standing) -> bool {
         (self.state == other.state) & ((self.state == 0) | (self.station == other.station))
     }
 
-    // The line of a standing that is another than it was before.
-    pub fn print_if_new(self, before: Standing, o: &mut Out, at: usize) -> usize {
-        if self.same(before) {
-            return at;
-        }
+    // The line of a standing.
+    pub fn print(self, o: &mut Out, at: usize) -> usize {
         let a = printing::text(o, at, b"state ");
         let mut b = name(o, a, self.state);
         if self.state != 0 {
