@@ -1,6 +1,6 @@
 // What a controller sent, wrote and entered, as lines: the frames of a tick as candump writes them, a settings record, and a session's
 // standing where it is another than before. This crate may not know any controller, nor why a frame was sent.
-ghost use Prim.Native.Nat.{_+_, _≤_};
+ghost use Prim.Native.Nat.{_+_, _≤_, _<_};
 use printing::Out;
 use states::State;
 
@@ -181,6 +181,43 @@ pub fn print_frames(buf: &Buffer, n: usize, tick: u64, o: &mut Out, at: usize) -
         i += 13;
     }
     a
+}
+
+// The word of a frame's answer.
+fn lay_answer(o: &mut Out, at: usize)
+    requires { ⌜ at + 6 ≤ 65536 ⌝ }
+{
+    o[at] = b'f';
+    o[at + 1] = b'r';
+    o[at + 2] = b'a';
+    o[at + 3] = b'm';
+    o[at + 4] = b'e';
+    o[at + 5] = b' ';
+}
+
+// A number of one digit or two, and the end of the line: the place past it.
+fn lay_number(number: u8, o: &mut Out, at: usize) -> usize
+    requires { ⌜ (number < 100) × (at + 3 ≤ 65536) ⌝ }
+{
+    if number < 10 {
+        o[at] = b'0' + number;
+        o[at + 1] = b'\n';
+        return at + 2;
+    }
+    o[at] = b'0' + number / 10;
+    o[at + 1] = b'0' + number % 10;
+    o[at + 2] = b'\n';
+    at + 3
+}
+
+// A frame's number. Those of three digits, which no answer has today, go byte by byte.
+pub fn print_answer(number: u8, o: &mut Out, at: usize) -> usize {
+    if 100 <= number {
+        return printing::numbered(o, at, b"frame ", number as u64);
+    }
+    let a = printing::room(o, at);
+    lay_answer(o, a);
+    lay_number(number, o, a + 6)
 }
 
 // A write's number, the bytes that it wrote, and these.
