@@ -60,15 +60,12 @@ impl Standing {
         }
     }
 
-    fn same(self, other: Standing) -> bool {
+    pub fn same(self, other: Standing) -> bool {
         (self.state == other.state) & ((self.state == 0) | (self.station == other.station))
     }
 
-    // The line of a standing that is another than it was before.
-    pub fn print_if_new(self, before: Standing, o: &mut Out, at: usize) -> usize {
-        if self.same(before) {
-            return at;
-        }
+    // The line of a standing. It stands apart from the test for a new one, so that calls which change none pass it by.
+    pub fn print(self, o: &mut Out, at: usize) -> usize {
         let a = printing::text(o, at, b"state ");
         let mut b = name(o, a, self.state);
         if self.state != 0 {
@@ -76,6 +73,14 @@ impl Standing {
             b = printing::byte(o, b, self.station);
         }
         printing::put(o, b, b'\n')
+    }
+
+    // That line, where the standing is another than it was before.
+    pub fn print_if_new(self, before: Standing, o: &mut Out, at: usize) -> usize {
+        if self.same(before) {
+            return at;
+        }
+        self.print(o, at)
     }
 }
 
