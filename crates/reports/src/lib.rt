@@ -65,7 +65,7 @@ impl Standing {
         (self.state == other.state) & ((self.state == 0) | (self.station == other.station))
     }
 
-    // The line of a standing.
+    // The line of a standing. It stands apart from the test for a new one, so that calls which change none pass it by.
     pub fn print(self, o: &mut Out, at: usize) -> usize {
         let a = printing::text(o, at, b"state ");
         let mut b = name(o, a, self.state);

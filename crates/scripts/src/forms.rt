@@ -102,33 +102,33 @@ fn closed(line: &Text, at: usize, n: usize) -> Counted {
     }
 }
 
-fn identified(x: u64, n: usize) -> Received {
+// A frame whose data stand from a place on, to the end of the line.
+fn identified(id: u32, line: &Text, from: usize, bytes: &mut Bytes) -> Received {
+    let Hex::Bytes(n, at) = numbers::read_hex(line, from, bytes) else {
+        return Received::Not;
+    };
     if 64 < n {
         return Received::Not;
     }
-    if x <= 0xffff_ffff {
-        Received::Frame(x as u32, n)
+    if words::is_end(line, at) {
+        Received::Frame(id, n)
     } else {
         Received::Not
     }
 }
 
-// ID#DATA, the last word of its line.
+// ID#DATA, the last word of its line. A ninth digit would stand where the `#` must.
 pub fn read_frame(line: &Text, from: usize, bytes: &mut Bytes) -> Received {
     let d = numbers::read_hex_digits(line, from);
-    let mark = words::byte_at(line, d.at) == b'#';
-    let some = (1 <= d.count) & (d.count <= 8);
-    if !(mark & some) {
+    let at = d.at;
+    if at <= from {
         return Received::Not;
     }
-    match numbers::read_hex(line, words::after(d.at), bytes) {
-        Hex::Bytes(n, at) => {
-            if words::is_end(line, at) {
-                identified(d.value, n)
-            } else {
-                Received::Not
-            }
-        }
-        Hex::Not => Received::Not,
+    if 4096 <= at {
+        return Received::Not;
     }
+    if line[at] != b'#' {
+        return Received::Not;
+    }
+    identified(d.value, line, at + 1, bytes)
 }

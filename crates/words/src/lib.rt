@@ -69,8 +69,11 @@ impl Word {
     }
 }
 
-// No word from a place on.
+// No word from a place on. Most lines end right there.
 pub fn is_end(line: &Text, from: usize) -> bool {
+    if byte_at(line, from) == b'\n' {
+        return true;
+    }
     let at = skip(line, from);
     byte_at(line, at) == b'\n'
 }

@@ -1,4 +1,5 @@
 // The numbers and the bytes that stand in a line, in decimal and in hex.
+ghost use Prim.Native.Nat.{_*_, _-_, _≤_};
 use crate::Text;
 use crate::Word;
 use crate::after;
@@ -21,6 +22,12 @@ pub struct Digits {
     pub at: usize,
 }
 
+// Hex digits: what they come to, and the place past them.
+pub struct HexDigits {
+    pub value: u32,
+    pub at: usize,
+}
+
 // A number that is to fit: whether it does, and the number.
 pub struct Fit {
     pub good: bool,
@@ -38,19 +45,21 @@ pub enum Hex {
     Not,
 }
 
-// The value of a digit, or 16 where it is none.
-fn digit(b: u8) -> u8 {
-    match b {
-        b'0'..=b'9' => b - b'0',
-        b'a'..=b'f' => b - b'a' + 10,
-        b'A'..=b'F' => b - b'A' + 10,
-        _ => 16,
+// The value of a digit, or 16 where it is none. What stands before '0' or 'a' wraps to a number past them; a capital is 32 before its
+// small letter, and no other character becomes one of the six by that bit.
+fn digit(b: u8) -> u32 {
+    let c = b as u32;
+    let d = std::num::wrapping_sub_u32(c, 48);
+    if d < 10 {
+        return d;
     }
+    let l = std::num::wrapping_sub_u32(c | 32, 97);
+    if l < 6 { l + 10 } else { 16 }
 }
 
 impl Digits {
     // One decimal digit more. A value that passes what any line may hold stays there, and so does a count.
-    fn with(self, d: u8) -> Digits {
+    fn with(self, d: u32) -> Digits {
         let mut next = self;
         next.at = after(self.at);
         if self.count < 100 {
@@ -83,20 +92,27 @@ pub fn read_digits(line: &Text, from: usize) -> Digits {
     d
 }
 
-// The hex digits from a place on. The value is that of the last twelve.
-pub fn read_hex_digits(line: &Text, from: usize) -> Digits {
-    let mut value = 0u64;
+// The eighth place past one, up to the end of the longest line.
+fn eighth(from: usize) -> usize
+    ensures { λ r. ⌜ r ≤ 4096 ⌝ }
+{
+    if from < 4088 { from + 8 } else { 4096 }
+}
+
+// The hex digits from a place on, up to eight.
+pub fn read_hex_digits(line: &Text, from: usize) -> HexDigits {
+    let stop = eighth(from);
+    let mut value = 0u32;
     let mut at = from;
-    while at < 4096 {
+    while at < stop {
         let x = digit(line[at]);
         if 16 <= x {
             break;
         }
-        value = value % 0x1000_0000_0000 * 16 + x as u64;
+        value = value << 4 | x;
         at += 1;
     }
-    Digits {
-        count: (at - from) as u64,
+    HexDigits {
         value: value,
         at: at,
     }
@@ -175,25 +191,28 @@ fn negative(x: u64) -> i16 {
     0 - y
 }
 
+// How many pairs of characters a line can hold from a place on. The last may have the newline past the longest line for its second.
+fn pairs(from: usize) -> usize
+    ensures { λ r. ⌜ 2 * r ≤ 4097 - from ⌝ }
+{
+    if from <= 4096 { (4097 - from) / 2 } else { 0 }
+}
+
 // The bytes in hex from a place on, as far as they go.
 pub fn read_hex(line: &Text, from: usize, out: &mut Bytes) -> Hex {
+    let most = pairs(from);
     let mut n = 0;
-    let mut at = from;
-    while at < 4096 {
-        let a = digit(line[at]);
+    while n < most {
+        let a = digit(line[from + 2 * n]);
         if 16 <= a {
             break;
         }
-        let b = digit(line[at + 1]);
+        let b = digit(line[from + 2 * n + 1]);
         if 16 <= b {
             return Hex::Not;
         }
-        if 2048 <= n {
-            return Hex::Not;
-        }
-        out[n] = a * 16 + b;
+        out[n] = (a * 16 + b) as u8;
         n += 1;
-        at += 2;
     }
-    Hex::Bytes(n, at)
+    Hex::Bytes(n, from + 2 * n)
 }

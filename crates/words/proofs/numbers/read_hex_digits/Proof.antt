@@ -5,10 +5,13 @@ use Rattle.words.proofs.numbers.read_hex_digits.Statement.{statement}
 use Rattle.words.proofs.numbers.read_hex_digits.Tie as tie
 
 abbrev Inv-loop : tie.InvT-loop
-Inv-loop line from value₀ at₀ value at = from ≤ at
+Inv-loop line from stop value₀ at₀ value at = stop ≤ 4096
 
 abbrev μ-loop : tie.MeasureT-loop
-μ-loop line from value₀ at₀ value at = 4096 - at
+μ-loop line from stop value₀ at₀ value at = stop - at
+
+eighth-requires : tie.Need-eighth-requires Inv-loop μ-loop
+eighth-requires c κs = search needs
 
 loop-holds : tie.Need-loop-holds Inv-loop μ-loop
 loop-holds c = search needs
@@ -19,15 +22,6 @@ element-copy-out-digit c = search needs
 digit-requires : tie.Need-digit-requires Inv-loop μ-loop
 digit-requires c κs = search needs
 
-mul-value : tie.Need-mul-value Inv-loop μ-loop
-mul-value c = search needs
-
-cast-value : tie.Need-cast-value Inv-loop μ-loop
-cast-value c = search needs
-
-add-value : tie.Need-add-value Inv-loop μ-loop
-add-value c = search needs
-
 add-at : tie.Need-add-at Inv-loop μ-loop
 add-at c = search needs
 
@@ -37,11 +31,11 @@ loop-less c = search needs
 loop-again : tie.Need-loop-again Inv-loop μ-loop
 loop-again c = search needs
 
-sub-t13 : tie.Need-sub-t13 Inv-loop μ-loop
-sub-t13 c = search needs
-
 returns : tie.Need-returns Inv-loop μ-loop
 returns c = search needs
+
+returns-2 : tie.Need-returns-2 Inv-loop μ-loop
+returns-2 c = search needs
 
 pub read-hex-digits-spec : {M : Type 1} → statement M
 read-hex-digits-spec =
@@ -49,14 +43,12 @@ read-hex-digits-spec =
     (tie.spec
     Inv-loop
     μ-loop
+    eighth-requires
     loop-holds
     element-copy-out-digit
     digit-requires
-    mul-value
-    cast-value
-    add-value
     add-at
     loop-less
     loop-again
-    sub-t13
-    returns)
+    returns
+    returns-2)
