@@ -1,5 +1,5 @@
-// What a controller sent, wrote and entered, as lines: the frames of a tick as candump writes them, a settings record, and a session's
-// standing. This crate may not know any controller, nor why a frame was sent.
+// What a controller answered, sent, wrote and entered, as lines: a frame's number, the frames of a tick as candump writes them, a settings
+// record, and a session's standing. This crate may not know any controller, nor why a frame was sent.
 ghost use Prim.Native.Nat.{_+_, _≤_, _<_};
 use printing::Out;
 use states::State;
@@ -97,7 +97,9 @@ fn padded(h: &mut Head, at: usize, n: u32, width: usize)
 fn head(tick: u64) -> Head {
     let mut h = *b"0000000000.000000) can0 ";
     let seconds = tick / 20;
-    padded(&mut h, 0, (seconds / 100_000 % 100_000) as u32, 5);
+    if 100_000 <= seconds {
+        padded(&mut h, 0, (seconds / 100_000 % 100_000) as u32, 5);
+    }
     padded(&mut h, 5, (seconds % 100_000) as u32, 5);
     padded(&mut h, 11, (tick % 20 * 5) as u32, 2);
     h
@@ -114,40 +116,53 @@ fn lay_head(h: &Head, o: &mut Out, at: usize)
     }
 }
 
-// The hex digits, made once for the frames of a tick.
-type Digits = [u8; 16];
-
-// A byte as two hex digits.
-fn lay_byte(b: u8, digits: &Digits, o: &mut Out, at: usize)
-    requires { ⌜ at + 2 ≤ 65536 ⌝ }
-{
-    let high = (b / 16) as usize;
-    let low = (b % 16) as usize;
-    o[at] = digits[high];
-    o[at + 1] = digits[low];
+fn wide(b: u8) -> u64 {
+    b as u64
 }
 
-// The eight data bytes of a frame.
-fn lay_data(buf: &Buffer, i: usize, digits: &Digits, o: &mut Out, at: usize)
-    requires { ⌜ (at + 16 ≤ 65536) × (i + 8 ≤ 4096) ⌝ }
+// Four bytes as one number, the first its lowest byte.
+fn four(a: u8, b: u8, c: u8, d: u8) -> u64 {
+    wide(a) | wide(b) << 8 | wide(c) << 16 | wide(d) << 24
+}
+
+// The eight hex digits of four bytes, each a byte: the bytes are set apart, then their halves, and to each its character is added, 7 more from A on.
+fn digits(x: u64) -> u64 {
+    let y = (x | x << 16) & 0x0000_ffff_0000_ffff;
+    let z = (y | y << 8) & 0x00ff_00ff_00ff_00ff;
+    let n = (z >> 4 & 0x000f_000f_000f_000f) | (z & 0x000f_000f_000f_000f) << 8;
+    let letters = std::num::wrapping_add_u64(n, 0x0606_0606_0606_0606) >> 4 & 0x0101_0101_0101_0101;
+    let more = std::num::wrapping_sub_u64(letters << 3, letters);
+    std::num::wrapping_add_u64(std::num::wrapping_add_u64(n, 0x3030_3030_3030_3030), more)
+}
+
+fn lowest(x: u64) -> u8 {
+    (x % 256) as u8
+}
+
+fn lay_digits(x: u64, o: &mut Out, at: usize)
+    requires { ⌜ at + 8 ≤ 65536 ⌝ }
 {
-    let mut k = 0;
-    while k < 8 {
-        lay_byte(buf[i + k], digits, o, at + 2 * k);
-        k += 1;
-    }
+    o[at] = lowest(x);
+    o[at + 1] = lowest(x >> 8);
+    o[at + 2] = lowest(x >> 16);
+    o[at + 3] = lowest(x >> 24);
+    o[at + 4] = lowest(x >> 32);
+    o[at + 5] = lowest(x >> 40);
+    o[at + 6] = lowest(x >> 48);
+    o[at + 7] = lowest(x >> 56);
 }
 
 // A frame's identifier and data, and the end of the line.
-fn lay_frame(buf: &Buffer, i: usize, digits: &Digits, o: &mut Out, at: usize)
+fn lay_frame(buf: &Buffer, i: usize, o: &mut Out, at: usize)
     requires { ⌜ (at + 26 ≤ 65536) × (i + 13 ≤ 4096) ⌝ }
 {
-    lay_byte(buf[i + 3], digits, o, at);
-    lay_byte(buf[i + 2], digits, o, at + 2);
-    lay_byte(buf[i + 1], digits, o, at + 4);
-    lay_byte(buf[i], digits, o, at + 6);
+    let id = four(buf[i + 3], buf[i + 2], buf[i + 1], buf[i]);
+    let first = four(buf[i + 5], buf[i + 6], buf[i + 7], buf[i + 8]);
+    let second = four(buf[i + 9], buf[i + 10], buf[i + 11], buf[i + 12]);
+    lay_digits(digits(id), o, at);
     o[at + 8] = b'#';
-    lay_data(buf, i + 5, digits, o, at + 9);
+    lay_digits(digits(first), o, at + 9);
+    lay_digits(digits(second), o, at + 17);
     o[at + 25] = b'\n';
 }
 
@@ -164,7 +179,6 @@ fn print_start(tick: u64, o: &mut Out, at: usize) -> usize {
 // The frames in the first n bytes of a buffer, as candump writes them. A whole frame begins at 4083 at the latest.
 pub fn print_frames(buf: &Buffer, n: usize, tick: u64, o: &mut Out, at: usize) -> usize {
     let h = head(tick);
-    let digits = b"0123456789ABCDEF";
     let mut a = at;
     let mut i = 0;
     while i < 4084 {
@@ -174,7 +188,7 @@ pub fn print_frames(buf: &Buffer, n: usize, tick: u64, o: &mut Out, at: usize) -
         a = print_start(tick, o, a);
         a = printing::room(o, a);
         lay_head(&h, o, a);
-        lay_frame(buf, i, digits, o, a + 24);
+        lay_frame(buf, i, o, a + 24);
         a += 50;
         i += 13;
     }

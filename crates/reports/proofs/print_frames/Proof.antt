@@ -5,10 +5,10 @@ use Rattle.reports.proofs.print_frames.Statement.{statement}
 use Rattle.reports.proofs.print_frames.Tie as tie
 
 abbrev Inv-loop : tie.InvT-loop
-Inv-loop buf n tick o₀ at h digits a₀ i₀ o a i = Unit {0}
+Inv-loop buf n tick o₀ at h a₀ i₀ o a i = Unit {0}
 
 abbrev μ-loop : tie.MeasureT-loop
-μ-loop buf n tick o₀ at h digits a₀ i₀ o a i = 4096 - i
+μ-loop buf n tick o₀ at h a₀ i₀ o a i = 4096 - i
 
 head-requires : tie.Need-head-requires Inv-loop μ-loop
 head-requires c κs = search needs
