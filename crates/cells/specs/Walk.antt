@@ -12,6 +12,6 @@ higherOf here after = cond (leb (after .value) (here .value)) here after
 abbrev pub lowerOf : Cell → Cell → Cell
 lowerOf here after = cond (leb (here .value) (after .value)) here after
 
--- of a glance, which keeps no index
+-- of a glance, which walks from the front and keeps no index (`passed-again`, proofs/Glance.antt)
 abbrev pub greaterOf : ℕ → ℕ → ℕ
 greaterOf a b = cond (leb a b) b a

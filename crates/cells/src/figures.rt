@@ -1,5 +1,5 @@
 // What is said of a table as a whole, by one walk from its end: a cell that ties with a later one then takes its place, so that a tie
-// goes to the lowest index (01, "Broadcasts and cell answers").
+// goes to the lowest index (01, "Broadcasts and cell answers"). A glance keeps no index, and walks from the front.
 ghost use mathlib.Core.Path.{_≡_};
 ghost use mathlib.Core.Bool.{true};
 ghost use mathlib.Core.List.{[]};
@@ -133,7 +133,7 @@ fn greater(a: u16, b: u16) -> u16
     if a <= b { b } else { a }
 }
 
-// No index is kept and no walk from the end is needed, so that a turn is a maximum alone.
+// A turn is a maximum alone, so that a compiler can take several cells at once.
 fn highest(v: &[u16]) -> u16
     ensures { λ r. ⌜ r ≡ highestOf (now (v .entry)) ⌝ }
 {

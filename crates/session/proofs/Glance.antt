@@ -1,7 +1,7 @@
 -- A tick that does not look closer comes to the same for any cells that have the same number and the same highest voltage. Assumes nothing.
 use Prim.Native.Nat.{ℕ}
 use mathlib.Core.Path.{_≡_, refl, sym, _∙_, ap}
-use mathlib.Core.Bool.{Bool, true, false, cond, not, _&&_, _||_, false≢true}
+use mathlib.Core.Bool.{Bool, true, false, not, _&&_, _||_, false≢true}
 use mathlib.Core.List.{[], _∷_}
 use types.Run.{OneOf, miss}
 use denote.Enum.Declared.{tagOf}
@@ -19,14 +19,13 @@ use Rattle.phases.specs.Phases.{driveRules, holdRules, turnedOf}
 use Rattle.states.specs.declared.State.{State}
 use Rattle.states.specs.declared.State.the-variants.{Idle, Offered, Unverified, Parameters, Ready, Charging, Stopping, Error}
 use Rattle.states.proofs.State.{the-type}
-use Rattle.turns.specs.declared.Turn.{Turn}
-use Rattle.turns.specs.declared.Turn.the-variants.{On, Enter, Farewell, End}
+use Rattle.turns.specs.declared.Turn.the-variants.{On}
 use Rattle.turns.specs.Turns.{cellFull, packFull, phaseOn, phaseTurn, stopsOf, chargingOf, turnOf}
 use Rattle.layouts.specs.Layouts.{holdVoltage, ecrOf}
 use Rattle.session.specs.declared.Session.{Session}
 use Rattle.session.specs.Frames.{isFifth, each5, chargingFrames, framesIn, framesOf}
 use Rattle.session.specs.Reads.{phaseGoesOn, goesOn, chargingCloser, closerIn, looksCloser}
-use Rattle.session.specs.Tick.{turnedBy, advanceOf, turnIn, tickOf, sentOf}
+use Rattle.session.specs.Tick.{turnedBy, turnIn, tickOf, sentOf}
 
 -- the states that have no line of their own in the code (`looks_closer`)
 pub others : (x : Settings) (r : Readings) (c : Cells) (count silence : ℕ) (st : State) → OneOf (0 ∷ 1 ∷ 2 ∷ 3 ∷ 4 ∷ 6 ∷ 7 ∷ []) (tagOf the-type st)
@@ -156,6 +155,6 @@ module _ (x : Settings) (r : Readings) (c d : Cells) (g : SameGlance c d) where
   glances s (Stopping a b) e h = absurd (false≢true (sym h))
   glances s Error e h = absurd (false≢true (sym h))
 
-  pub glanced : (s : Session) → looksCloser x r c s ≡ false → Same s
+  pub glanced : (s : Session) → looksCloser x r c s ≡ false → (tickOf x r c s ≡ tickOf x r d s) × (sentOf x r c s ≡ sentOf x r d s)
   unfolding looksCloser
   glanced s h = glances s (s .state) refl h

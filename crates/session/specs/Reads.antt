@@ -34,23 +34,24 @@ readsCells (Charging p) count = true
 readsCells (Stopping acknowledged est) count = stoppingReads count est
 readsCells Error count = false
 
--- A phase before its time limit goes on, whatever the cells; but a cell at or above maximum stops Hold
+-- A phase before its time limit goes on (Drive, at a full cell, as Rest); but a cell at or above maximum stops Hold
 unfoldable pub phaseGoesOn : Phase → Bool → Bool
 phaseGoesOn (Drive request cycle time) cell = ltb time 18000
 phaseGoesOn (Rest request cycle time) cell = ltb time 6000
 phaseGoesOn (Hold time) cell = ltb time 18000 && not cell
 
--- No stop of Charging applies: silence under 200, charge wanted, current not above maximum, pack voltage below maximum, and the phase goes on
+-- Charging goes on: silence under 200, charge wanted, current not above maximum, pack voltage below maximum, and the phase goes on. (A Rest at
+-- its end may go on too; where this says that it does not, more is worked out than is read.)
 unfoldable pub goesOn : Settings → Readings → Cells → ℕ → Phase → Bool
 goesOn x r c silence p =
     ltb silence 200
     && (wantedOf r && (not (aboveOf (r .current) (x .current)) && (not (packFull x r) && phaseGoesOn p (cellFull x c))))
 
--- Charging that goes on sends ECR, and ECS and ESM each 5: more than the two figures is only in these, and in EDM where it stops
+-- The stops ask the highest voltage, and ECR has the number of cells. ECS and ESM, each 5, have more, and so has EDM, where Charging stops
 unfoldable pub chargingCloser : Settings → Readings → Cells → ℕ → ℕ → Phase → Bool
 chargingCloser x r c count silence p = isFifth count || not (goesOn x r c silence p)
 
--- of the other states that is not told: they look closer where they look at all
+-- the other states look closer where they look at all
 unfoldable pub closerIn : Settings → Readings → Cells → ℕ → ℕ → State → Bool
 closerIn x r c count silence Idle = true
 closerIn x r c count silence Offered = true

@@ -38,7 +38,7 @@ fn phase_goes_on(p: Phase, cell: bool) -> bool
     }
 }
 
-// Each test is short, and only their sum is asked: the turn itself, a state built anew, would cost more than the cells left unwalked save.
+// The tests of the turn, and not the turn itself: a state built a second time costs more than they do.
 fn goes_on(x: Settings, r: Readings, c: Cells, silence: u8, p: Phase) -> bool
     ensures { λ b. ⌜ b ≡ goesOn x r c silence p ⌝ }
 {
@@ -72,7 +72,7 @@ impl Session {
         }
     }
 
-    // Asked of cells of which the two figures are known.
+    // Of the cells it asks the highest voltage alone.
     pub fn looks_closer(self, x: Settings, r: Readings, c: Cells) -> bool
         ensures { λ b. ⌜ b ≡ looksCloser x r c self ⌝ }
     {
