@@ -1,5 +1,6 @@
 pub mod Tables
 pub mod Summaries
+pub mod Glance
 pub mod Groups
 pub mod Walk
 pub mod Bounds

@@ -1,13 +1,14 @@
 // What is said of a table as a whole, by one walk from its end: a cell that ties with a later one then takes its place, so that a tie
-// goes to the lowest index (01, "Broadcasts and cell answers").
+// goes to the lowest index (01, "Broadcasts and cell answers"). A glance keeps no index, and walks from the front.
 ghost use mathlib.Core.Path.{_≡_};
 ghost use mathlib.Core.Bool.{true};
 ghost use mathlib.Core.List.{[]};
 ghost use Prim.Native.Nat.{_*_, _≤_, _<_};
 ghost use lib.ListN.{length};
 ghost use Rattle.cells.specs.Tables.{mostCells, tablesFit, every, temperatureOk, cellsInRange, temperatureBytes};
-ghost use Rattle.cells.specs.Summaries.{summaryOf, cellsOf, averageOf};
-ghost use Rattle.cells.specs.Walk.{higherOf, lowerOf};
+ghost use Rattle.cells.specs.Summaries.{highestOf, summaryOf, cellsOf, averageOf};
+ghost use Rattle.cells.specs.Glance.{glanceOf};
+ghost use Rattle.cells.specs.Walk.{higherOf, lowerOf, greaterOf};
 use crate::Cell;
 use crate::Cells;
 use crate::Summary;
@@ -123,6 +124,52 @@ pub fn blank() -> Cells
     Cells {
         volts: summary,
         heat: summary,
+    }
+}
+
+fn greater(a: u16, b: u16) -> u16
+    ensures { λ r. ⌜ r ≡ greaterOf a b ⌝ }
+{
+    if a <= b { b } else { a }
+}
+
+// A turn is a maximum alone, so that a compiler can take several cells at once.
+fn highest(v: &[u16]) -> u16
+    ensures { λ r. ⌜ r ≡ highestOf (now (v .entry)) ⌝ }
+{
+    let mut high = 0;
+    let mut i = 0;
+    while i < v.len() {
+        high = greater(high, v[i]);
+        i += 1;
+    }
+    high
+}
+
+// The number of cells and the highest voltage, for a caller whom nothing will ask of the rest.
+pub fn glance(v: &[u16]) -> Cells
+    requires { ⌜ length (now v) ≤ mostCells ⌝ }
+    ensures { λ r. ⌜ r ≡ glanceOf (now (v .entry)) ⌝ }
+{
+    let count = v.len() as u16;
+    let none = Cell { value: 0, index: 0 };
+    let highest = Cell {
+        value: highest(v),
+        index: 0,
+    };
+    Cells {
+        volts: Summary {
+            count,
+            sum: 0,
+            highest,
+            lowest: none,
+        },
+        heat: Summary {
+            count: 0,
+            sum: 0,
+            highest: none,
+            lowest: none,
+        },
     }
 }
 

@@ -1,3 +1,4 @@
 pub mod Start
 pub mod Frame
 pub mod Tick
+pub mod Needed

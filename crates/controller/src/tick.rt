@@ -1,17 +1,17 @@
 // A tick (01, "Numbers returned", 14 to 16; "Session by tick"; "Broadcasts and cell answers").
 ghost use mathlib.Core.Path.{_≡_};
-ghost use mathlib.Core.Bool.{true, cond, _||_};
-ghost use mathlib.Core.List.{[], _++_};
+ghost use mathlib.Core.Bool.{true};
+ghost use mathlib.Core.List.{_++_};
 ghost use Prim.Native.Nat.{_+_, _≤_};
 ghost use lib.ListN.{length};
 ghost use Rattle.frames.specs.Sent.{Sent};
 ghost use Rattle.cells.specs.Tables.{tablesFit, cellsInRange};
 ghost use Rattle.cells.specs.Summaries.{cellsOf};
 ghost use Rattle.cells.specs.Bounds.{BoundedCells};
-ghost use Rattle.session.specs.Reads.{readsCells};
 ghost use Rattle.session.specs.Tick.{tickOf, sentOf};
 ghost use Rattle.broadcasts.specs.Beat.{dueAt};
 ghost use Rattle.broadcasts.specs.Sendings.{broadcastAt};
+ghost use Rattle.controller.specs.Needed.{lookedOf, neededOf};
 ghost use Rattle.controller.specs.Tick.{tickNumber, chargeFrames, broadcastFrames, tickNext, TickIs};
 use crate::Controller;
 use crate::Ticked;
@@ -50,24 +50,32 @@ fn tick_number(r: Readings, v: &[u16], t: &[i16], room: usize) -> u8
 }
 
 impl Controller {
-    // Something looks at the cells on this tick: a broadcast is due, or the session does.
-    fn reads_cells(self) -> bool
-        ensures { λ b. ⌜ b ≡ (dueAt (self .beat .tick) || readsCells (self .session .state) (self .session .count)) ⌝ }
+    // Where only the session looks at the cells: a glance, and all of them where it looks closer.
+    fn looked(self, r: Readings, v: &[u16], t: &[i16]) -> Cells
+        requires { ⌜ (tablesFit (now v) (now t) ≡ true) × (cellsInRange (now v) (now t) ≡ true) ⌝ }
+        ensures { λ c. ⌜ c ≡ lookedOf self r (now (v .entry)) (now (t .entry)) ⌝ }
     {
-        let beat = self.beat;
-        let due = beat.due();
+        let c = figures::glance(v);
         let s = self.session;
-        let reads = s.reads_cells();
-        due | reads
+        if s.looks_closer(self.settings, r, c) {
+            figures::summarize(v, t)
+        } else {
+            c
+        }
     }
 
-    // What is said of the cells; where nothing looks at them they are not walked, and what is said of no cells stands for it.
-    fn cells(self, v: &[u16], t: &[i16]) -> Cells
+    // What is said of the cells, as far as something looks at it: where nothing does they are not walked, and what is said of no cells stands
+    // for it.
+    fn cells(self, r: Readings, v: &[u16], t: &[i16]) -> Cells
         requires { ⌜ (tablesFit (now v) (now t) ≡ true) × (cellsInRange (now v) (now t) ≡ true) ⌝ }
-        ensures { λ c. ⌜ c ≡ cond (dueAt (self .beat .tick) || readsCells (self .session .state) (self .session .count)) (cellsOf (now (v .entry)) (now (t .entry))) (cellsOf [] []) ⌝ }
+        ensures { λ c. ⌜ c ≡ neededOf self r (now (v .entry)) (now (t .entry)) ⌝ }
     {
-        if self.reads_cells() {
+        let beat = self.beat;
+        let s = self.session;
+        if beat.due() {
             figures::summarize(v, t)
+        } else if s.reads_cells() {
+            self.looked(r, v, t)
         } else {
             figures::blank()
         }
@@ -94,7 +102,7 @@ impl Controller {
         ensures next { λ p. ⌜ p .session ≡ tickOf (self .settings) r (cellsOf (now (v .entry)) (now (t .entry))) (self .session) ⌝ }
         ensures sent { λ p. ⌜ Sent 8 (now (buf .entry)) (now (buf .exit)) 0 (p .at) (chargeFrames self r (now (v .entry)) (now (t .entry)) ++ broadcastFrames self r (now (v .entry)) (now (t .entry))) ⌝ }
     {
-        let c = self.cells(v, t);
+        let c = self.cells(r, v, t);
         let s = self.session;
         let k = s.tick(self.settings, r, c);
         let next = k.session;

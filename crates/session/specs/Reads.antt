@@ -1,12 +1,21 @@
--- Which ticks look at the cells (01, "Session by tick"). Where a tick does not, its outcome is the same for any cells (the law `unread`,
--- proofs/Unread.antt), so they need not be walked for it.
+-- Which ticks look at the cells, and which of these closer than at their number and the highest voltage (01, "Session by tick"). Where a tick does
+-- not, its outcome is the same for any cells (the law `unread`, proofs/Unread.antt) or for any with the same two figures (`glanced`,
+-- proofs/Glance.antt), so the rest need not be worked out for it.
 use Prim.Native.Nat.{ℕ}
-use mathlib.Core.Bool.{Bool, true, false, _&&_}
+use mathlib.Core.Bool.{Bool, true, false, not, _&&_, _||_}
 use lib.Dec.{ltb}
+use Rattle.settings.specs.declared.Settings.{Settings}
+use Rattle.readings.specs.declared.Readings.{Readings}
+use Rattle.readings.specs.Readings.{wantedOf, aboveOf}
+use Rattle.cells.specs.declared.Cells.{Cells}
+use Rattle.phases.specs.declared.Phase.{Phase}
+use Rattle.phases.specs.declared.Phase.the-variants.{Drive, Rest, Hold}
 use Rattle.states.specs.declared.Est.{Est}
 use Rattle.states.specs.declared.Est.the-variants.{Awaited, Fixed}
 use Rattle.states.specs.declared.State.{State}
 use Rattle.states.specs.declared.State.the-variants.{Idle, Offered, Unverified, Parameters, Ready, Charging, Stopping, Error}
+use Rattle.turns.specs.Turns.{cellFull, packFull}
+use Rattle.session.specs.declared.Session.{Session}
 use Rattle.session.specs.Frames.{isFifth}
 
 -- Stopping ends at count 600; before, EST byte 1 is fixed by the highest cell, and EDM, each 5, has the cells
@@ -24,3 +33,34 @@ readsCells (Ready accepted most) count = false
 readsCells (Charging p) count = true
 readsCells (Stopping acknowledged est) count = stoppingReads count est
 readsCells Error count = false
+
+-- A phase before its time limit goes on (Drive, at a full cell, as Rest); but a cell at or above maximum stops Hold
+unfoldable pub phaseGoesOn : Phase → Bool → Bool
+phaseGoesOn (Drive request cycle time) cell = ltb time 18000
+phaseGoesOn (Rest request cycle time) cell = ltb time 6000
+phaseGoesOn (Hold time) cell = ltb time 18000 && not cell
+
+-- Charging goes on: silence under 200, charge wanted, current not above maximum, pack voltage below maximum, and the phase goes on. (A Rest at
+-- its end may go on too; where this says that it does not, more is worked out than is read.)
+unfoldable pub goesOn : Settings → Readings → Cells → ℕ → Phase → Bool
+goesOn x r c silence p =
+    ltb silence 200
+    && (wantedOf r && (not (aboveOf (r .current) (x .current)) && (not (packFull x r) && phaseGoesOn p (cellFull x c))))
+
+-- The stops ask the highest voltage, and ECR has the number of cells. ECS and ESM, each 5, have more, and so has EDM, where Charging stops
+unfoldable pub chargingCloser : Settings → Readings → Cells → ℕ → ℕ → Phase → Bool
+chargingCloser x r c count silence p = isFifth count || not (goesOn x r c silence p)
+
+-- the other states look closer where they look at all
+unfoldable pub closerIn : Settings → Readings → Cells → ℕ → ℕ → State → Bool
+closerIn x r c count silence Idle = true
+closerIn x r c count silence Offered = true
+closerIn x r c count silence Unverified = true
+closerIn x r c count silence Parameters = true
+closerIn x r c count silence (Ready accepted most) = true
+closerIn x r c count silence (Charging p) = chargingCloser x r c count silence p
+closerIn x r c count silence (Stopping acknowledged est) = true
+closerIn x r c count silence Error = true
+
+unfoldable pub looksCloser : Settings → Readings → Cells → Session → Bool
+looksCloser x r c s = closerIn x r c (s .count) (s .silence) (s .state)

@@ -1,8 +1,13 @@
-// Whether a tick looks at the cells, so that a caller need not walk tables that nothing reads.
+// Whether a tick looks at the cells, and whether closer than at their number and the highest voltage, so that a caller need not work out
+// figures that nothing reads.
 ghost use mathlib.Core.Path.{_≡_};
-ghost use Rattle.session.specs.Reads.{stoppingReads, readsCells};
+ghost use Rattle.session.specs.Reads.{stoppingReads, readsCells, phaseGoesOn, goesOn, chargingCloser, looksCloser};
 use crate::Session;
 use crate::due;
+use cells::Cells;
+use phases::Phase;
+use readings::Readings;
+use settings::Settings;
 use states::Est;
 use states::State;
 
@@ -13,6 +18,43 @@ fn stopping(count: u16, est: Est) -> bool
         Est::Awaited => count < 600,
         Est::Fixed(_, _) => (count < 600) & due::is_fifth(count),
     }
+}
+
+fn phase_goes_on(p: Phase, cell: bool) -> bool
+    ensures { λ r. ⌜ r ≡ phaseGoesOn p cell ⌝ }
+{
+    match p {
+        Phase::Drive {
+            request: _,
+            cycle: _,
+            time,
+        } => time < 18000,
+        Phase::Rest {
+            request: _,
+            cycle: _,
+            time,
+        } => time < 6000,
+        Phase::Hold { time } => (time < 18000) & !cell,
+    }
+}
+
+// The tests of the turn, and not the turn itself: a state built a second time costs more than they do.
+fn goes_on(x: Settings, r: Readings, c: Cells, silence: u8, p: Phase) -> bool
+    ensures { λ b. ⌜ b ≡ goesOn x r c silence p ⌝ }
+{
+    let wanted = r.wanted();
+    let above = r.current_above(x.current);
+    let pack = turns::pack_full(x, r);
+    let phase = phase_goes_on(p, turns::cell_full(x, c));
+    (silence < 200) & (wanted & (!above & (!pack & phase)))
+}
+
+fn charging(x: Settings, r: Readings, c: Cells, count: u16, silence: u8, p: Phase) -> bool
+    ensures { λ b. ⌜ b ≡ chargingCloser x r c count silence p ⌝ }
+{
+    let fifth = due::is_fifth(count);
+    let on = goes_on(x, r, c, silence, p);
+    fifth | !on
 }
 
 impl Session {
@@ -27,6 +69,18 @@ impl Session {
                 est,
             } => stopping(self.count, est),
             _ => false,
+        }
+    }
+
+    // Of the cells it asks the highest voltage alone.
+    pub fn looks_closer(self, x: Settings, r: Readings, c: Cells) -> bool
+        ensures { λ b. ⌜ b ≡ looksCloser x r c self ⌝ }
+    {
+        let state = self.state;
+        if let State::Charging(p) = state {
+            charging(x, r, c, self.count, self.silence, p)
+        } else {
+            true
         }
     }
 }

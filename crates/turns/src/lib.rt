@@ -27,14 +27,14 @@ pub enum Turn {
 }
 
 // The highest cell is at or above the maximum.
-fn cell_full(x: Settings, c: Cells) -> bool
+pub fn cell_full(x: Settings, c: Cells) -> bool
     ensures { λ r. ⌜ r ≡ cellFull x c ⌝ }
 {
     HundredthVolts(c.volts.highest.value).at_least(x.cell)
 }
 
 // The pack voltage is at or above the maximum.
-fn pack_full(x: Settings, r: Readings) -> bool
+pub fn pack_full(x: Settings, r: Readings) -> bool
     ensures { λ b. ⌜ b ≡ packFull x r ⌝ }
 {
     r.pack.at_least(x.pack)

@@ -1,4 +1,4 @@
--- `controller::Controller::part` meets its contract: the charge frames, then the broadcasts, the cells unwalked where they make no difference.
+-- `controller::Controller::part` meets its contract: the charge frames, then the broadcasts, of the cells only what makes a difference.
 -- Assumes nothing.
 use Rattle.frames.proofs.Laws.{sent-then, sent-eq}
 use Rattle.cells.proofs.Bounds.{cells-bounded}
@@ -28,9 +28,9 @@ unfolding chargeFrames broadcastFrames
 returns c = let a = c .before .before .before .before .before .before .before .before .before .before .before .before .before .before .args in
     let e = c .before .before .before .before .before .before .before .before .before .before .before .cells .ensures in
     let k = c .before .before .before .before .before .before .before .before .before .tick .ensures in (
-      rw (k .0, e) (quiet-tick (a .self) (a .r) _ _),
+      rw (k .0, e) (quiet-tick (a .self) (a .r) (a .v .now) (a .t .now)),
       sent-eq (sent-then (c .before .before .before .before .before .before .charge .ensures) (c .before .before .broadcast .ensures))
-          (rw (k .1, e, quiet-sent (a .self) (a .r) _ _, quiet-broadcast (a .self) (a .r) _ _)),
+          (rw (k .1, e, quiet-sent (a .self) (a .r) (a .v .now) (a .t .now), quiet-broadcast (a .self) (a .r) (a .v .now) (a .t .now))),
     )
 
 pub part-spec : {M : Type 1} → statement M
