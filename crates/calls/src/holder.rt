@@ -73,14 +73,6 @@ fn no_controller() -> Controller {
     }
 }
 
-fn number(k: Change) -> u8 {
-    match k {
-        Change::Nothing(n) => n,
-        Change::Session(t) => t.number,
-        Change::Queries(a) => a.number,
-    }
-}
-
 impl Holder {
     pub fn start() -> Holder {
         Holder {
@@ -150,7 +142,7 @@ impl Holder {
         }
         let c = self.controller;
         let change = heard(c, id, bytes, n);
-        let mut a = reports::print_answer(number(change), o, self.out);
+        let mut a = reports::print_answer(change.number(), o, self.out);
         if let Change::Session(t) = change {
             let s = t.session;
             let now = session_standing(s);
@@ -167,21 +159,9 @@ impl Holder {
     // The controller with what a frame changed.
     pub fn after(self, f: Framed) -> Holder {
         let mut h = self;
-        let mut c = self.controller;
-        let change = f.change;
-        match change {
-            Change::Nothing(_) => {}
-            Change::Session(t) => {
-                let s = t.session;
-                c.session = s;
-                h.controller = c;
-            }
-            Change::Queries(a) => {
-                let q = a.queries;
-                c.queries = q;
-                h.controller = c;
-            }
-        }
+        let c = self.controller;
+        let next = c.after(f.change);
+        h.controller = next;
         h.out = f.out;
         h
     }

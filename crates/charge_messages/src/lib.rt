@@ -107,17 +107,17 @@ fn cem(c: u8) -> Content
 pub fn read_content(m: Charge, bytes: &[u8]) -> Content
     ensures { λ r. ⌜ r ≡ contentOf m (now (bytes .entry)) ⌝ }
 {
-    let a = buffers::byte_at(bytes, 0);
-    let b = buffers::byte_at(bytes, 1);
-    let c = buffers::byte_at(bytes, 2);
-    let e = buffers::byte_at(bytes, 4);
     match m {
-        Charge::Cim => cim(a, b, c),
-        Charge::Cvm => cvm(a),
+        Charge::Cim => {
+            let a = buffers::byte_at(bytes, 0);
+            let b = buffers::byte_at(bytes, 1);
+            cim(a, b, buffers::byte_at(bytes, 2))
+        }
+        Charge::Cvm => cvm(buffers::byte_at(bytes, 0)),
         Charge::Cmp => cmp(bytes),
-        Charge::Crm => crm(a),
-        Charge::Ccs => ccs(e),
-        Charge::Cst => cst(c),
-        Charge::Cem => cem(c),
+        Charge::Crm => crm(buffers::byte_at(bytes, 0)),
+        Charge::Ccs => ccs(buffers::byte_at(bytes, 4)),
+        Charge::Cst => cst(buffers::byte_at(bytes, 2)),
+        Charge::Cem => cem(buffers::byte_at(bytes, 2)),
     }
 }

@@ -123,8 +123,16 @@ frameTo c id s =
 abbrev pub FrameIs : Controller → ℕ → List ℕ → Answer → Type 0
 FrameIs c id s a = a ≡ frameTo c id s
 
--- what a change says of a controller: its number, and the controller with that part new
+-- the same outcome told as a change: its number in each case, and the controller after it
+abbrev pub changeNumber : Change → ℕ
+changeNumber (change.Nothing n) = n
+changeNumber (change.Session t) = t .number
+changeNumber (change.Queries a) = a .number
+
+abbrev pub afterChange : Controller → Change → Controller
+afterChange c (change.Nothing n) = c
+afterChange c (change.Session t) = withSession c t .controller
+afterChange c (change.Queries a) = withQueries c a .controller
+
 unfoldable pub answerOf : Controller → Change → Answer
-answerOf c (change.Nothing n) = refused n c
-answerOf c (change.Session t) = withSession c t
-answerOf c (change.Queries a) = withQueries c a
+answerOf c k = record { number = changeNumber k; controller = afterChange c k }

@@ -1,6 +1,6 @@
 // A received frame (01, "Numbers returned", 3 to 13, in numeric order).
 ghost use mathlib.Core.Path.{_≡_};
-ghost use Rattle.controller.specs.Frame.{isIdle, listed, mayCharge, refused, withSession, withQueries, answerOf, contentTaken, chargeTo, kindOf, queryTo, messageTo, knownTo, notCan, flagsSet, notForUs, badSource, FrameIs};
+ghost use Rattle.controller.specs.Frame.{isIdle, listed, mayCharge, refused, changeNumber, afterChange, answerOf, contentTaken, chargeTo, kindOf, queryTo, messageTo, knownTo, notCan, flagsSet, notForUs, badSource, FrameIs};
 use crate::Answer;
 use crate::Change;
 use crate::Controller;
@@ -11,9 +11,7 @@ use messages::received::Charge;
 use messages::received::Message;
 use messages::received::Query;
 use messages::received::Recognized;
-use queries::Asked;
 use queries::Kind;
-use session::Taken;
 use settings::Stations;
 use states::State;
 
@@ -71,6 +69,19 @@ fn bad_source(own: u8, p: Identifier) -> bool
     ensures { λ r. ⌜ r ≡ badSource own p ⌝ }
 {
     (p.source == own) | ((p.source == 254) | (p.source == 255))
+}
+
+impl Change {
+    // The number of a frame's answer.
+    pub fn number(self) -> u8
+        ensures { λ r. ⌜ r ≡ changeNumber self ⌝ }
+    {
+        match self {
+            Change::Nothing(n) => n,
+            Change::Session(t) => t.number,
+            Change::Queries(a) => a.number,
+        }
+    }
 }
 
 impl Controller {
@@ -149,7 +160,8 @@ impl Controller {
         }
     }
 
-    // ENTRY POINT, for a host that stores what a frame changes and nothing else. Any identifier, any data of any length, any controller.
+    // ENTRY POINT, in a second form: what a frame changes, for a host that holds the controller and stores no more (`after`). Any
+    // identifier, any data of any length, any controller.
     pub fn change(self, id: u32, bytes: &[u8]) -> Change
         ensures { λ r. ⌜ FrameIs self id (now (bytes .entry)) (answerOf self r) ⌝ }
     {
@@ -170,60 +182,35 @@ impl Controller {
         self.known_to(p.source, received::recognize(p), bytes)
     }
 
-    fn with_session(self, t: Taken) -> Answer
-        ensures { λ r. ⌜ r ≡ withSession self t ⌝ }
+    // The controller after a change. A host stores what the change holds, whatever the number.
+    pub fn after(self, k: Change) -> Controller
+        ensures { λ r. ⌜ r ≡ afterChange self k ⌝ }
     {
-        let settings = self.settings;
-        let beat = self.beat;
-        let queries = self.queries;
-        let next = t.session;
-        Answer {
-            number: t.number,
-            controller: Controller {
-                settings: settings,
-                session: next,
-                beat: beat,
-                queries: queries,
-            },
-        }
-    }
-
-    fn with_queries(self, a: Asked) -> Answer
-        ensures { λ r. ⌜ r ≡ withQueries self a ⌝ }
-    {
-        let settings = self.settings;
-        let session = self.session;
-        let beat = self.beat;
-        let next = a.queries;
-        Answer {
-            number: a.number,
-            controller: Controller {
-                settings: settings,
-                session: session,
-                beat: beat,
-                queries: next,
-            },
-        }
-    }
-
-    // The number, and the controller as it is after a change.
-    fn changed(self, k: Change) -> Answer
-        ensures { λ r. ⌜ r ≡ answerOf self k ⌝ }
-    {
+        let mut c = self;
         match k {
-            Change::Nothing(n) => Answer {
-                number: n,
-                controller: self,
-            },
-            Change::Session(t) => self.with_session(t),
-            Change::Queries(a) => self.with_queries(a),
+            Change::Nothing(_) => {}
+            Change::Session(t) => {
+                let s = t.session;
+                c.session = s;
+            }
+            Change::Queries(a) => {
+                let q = a.queries;
+                c.queries = q;
+            }
         }
+        c
     }
 
     // ENTRY POINT. Any identifier, any data of any length, any controller.
     pub fn frame(self, id: u32, bytes: &[u8]) -> Answer
         ensures { λ r. ⌜ FrameIs self id (now (bytes .entry)) r ⌝ }
     {
-        self.changed(self.change(id, bytes))
+        let k = self.change(id, bytes);
+        let number = k.number();
+        let next = self.after(k);
+        Answer {
+            number: number,
+            controller: next,
+        }
     }
 }

@@ -26,8 +26,8 @@ pub enum Start {
     Refused(u8),
 }
 
-// What a received frame changes, with its number: nothing, the session, or the waiting queries. The rest of the controller stays, so
-// that a host that holds one need store no more than this.
+// What a received frame may change, with its number: nothing, the session, or the waiting queries. The rest of the controller stays, so
+// that a host that holds one need store no more than the case holds. It stores that whatever the number: 11 may reset the silence.
 pub enum Change {
     Nothing(u8),
     Session(Taken),

@@ -32,24 +32,6 @@ abbrev pub rowOf : Message → Row
 rowOf (message.Charge c) = chargeRow c
 rowOf (message.Query q) = queryRow q
 
--- the place of each in the table
-abbrev pub chargePlace : Charge → ℕ
-chargePlace Cim = 0
-chargePlace Cvm = 1
-chargePlace Cmp = 2
-chargePlace Crm = 3
-chargePlace Ccs = 4
-chargePlace Cst = 5
-chargePlace Cem = 6
-
-abbrev pub queryPlace : Query → ℕ
-queryPlace Acv = 7
-queryPlace Act = 8
-
-abbrev pub placeOf : Message → ℕ
-placeOf (message.Charge c) = chargePlace c
-placeOf (message.Query q) = queryPlace q
-
 abbrev pub nine : List Message
 nine =
     message.Charge Cim

@@ -1,6 +1,6 @@
 // The nine messages that we take, told by their PF (01, "Identifier and message numbers", and number 7).
 ghost use mathlib.Core.Path.{_≡_};
-ghost use Rattle.messages.specs.Received.{rowOf, placeOf, chargePlace, queryPlace, recognizedOf, recognizedNumber, pfNumber};
+ghost use Rattle.messages.specs.Received.{rowOf, chargeRow, queryRow, recognizedOf, recognizedNumber, pfNumber};
 use crate::identifier::Identifier;
 use crate::table;
 use crate::table::Row;
@@ -54,49 +54,41 @@ pub fn recognize(id: Identifier) -> Recognized
 }
 
 impl Charge {
-    // Its place in the table.
-    fn place(self) -> usize
-        ensures { λ r. ⌜ r ≡ chargePlace self ⌝ }
+    // Its row of the table. The place is a constant in each line, so that no table is made to look into.
+    fn row(self) -> Row
+        ensures { λ r. ⌜ r ≡ chargeRow self ⌝ }
     {
         match self {
-            Charge::Cim => table::CIM,
-            Charge::Cvm => table::CVM,
-            Charge::Cmp => table::CMP,
-            Charge::Crm => table::CRM,
-            Charge::Ccs => table::CCS,
-            Charge::Cst => table::CST,
-            Charge::Cem => table::CEM,
+            Charge::Cim => table::row_at(table::CIM),
+            Charge::Cvm => table::row_at(table::CVM),
+            Charge::Cmp => table::row_at(table::CMP),
+            Charge::Crm => table::row_at(table::CRM),
+            Charge::Ccs => table::row_at(table::CCS),
+            Charge::Cst => table::row_at(table::CST),
+            Charge::Cem => table::row_at(table::CEM),
         }
     }
 }
 
 impl Query {
-    // Its place in the table.
-    fn place(self) -> usize
-        ensures { λ r. ⌜ r ≡ queryPlace self ⌝ }
+    fn row(self) -> Row
+        ensures { λ r. ⌜ r ≡ queryRow self ⌝ }
     {
         match self {
-            Query::Acv => table::ACV,
-            Query::Act => table::ACT,
+            Query::Acv => table::row_at(table::ACV),
+            Query::Act => table::row_at(table::ACT),
         }
     }
 }
 
 impl Message {
-    // Its place in the table.
-    fn place(self) -> usize
-        ensures { λ r. ⌜ r ≡ placeOf self ⌝ }
-    {
-        match self {
-            Message::Charge(c) => c.place(),
-            Message::Query(q) => q.place(),
-        }
-    }
-
     // Its row of the table.
     pub fn row(self) -> Row
         ensures { λ r. ⌜ r ≡ rowOf self ⌝ }
     {
-        table::row_at(self.place())
+        match self {
+            Message::Charge(c) => c.row(),
+            Message::Query(q) => q.row(),
+        }
     }
 }

@@ -1,5 +1,5 @@
 -- `controller::Controller::content_taken` meets its contract. Assumes nothing.
-use Rattle.controller.specs.Frame.{contentTaken, answerOf}
+use Rattle.controller.specs.Frame.{contentTaken, answerOf, withSession}
 use borrow.Author.Needs.{needs}
 use Rattle.controller.proofs.Controller.content_taken.Statement.{statement}
 use Rattle.controller.proofs.Controller.content_taken.Tie as tie
@@ -17,7 +17,7 @@ refused-requires : tie.Need-refused-requires
 refused-requires c κs = search needs
 
 returns : tie.Need-returns
-unfolding contentTaken answerOf
+unfolding contentTaken answerOf withSession
 returns c = rw (c .before .before .before .content .given .1, c .message .ensures)
 
 returns-2 : tie.Need-returns-2

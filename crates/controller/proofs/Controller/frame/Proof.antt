@@ -1,5 +1,6 @@
 -- `controller::Controller::frame` meets its contract. Assumes nothing.
-use mathlib.Core.Path.{_∙_}
+use mathlib.Core.Path.{sym, _∙_}
+use Rattle.controller.specs.Frame.{answerOf}
 use borrow.Author.Needs.{needs}
 use Rattle.controller.proofs.Controller.frame.Statement.{statement}
 use Rattle.controller.proofs.Controller.frame.Tie as tie
@@ -7,11 +8,15 @@ use Rattle.controller.proofs.Controller.frame.Tie as tie
 change-requires : tie.Need-change-requires
 change-requires c κs = search needs
 
-changed-requires : tie.Need-changed-requires
-changed-requires c κs = search needs
+number-requires : tie.Need-number-requires
+number-requires c κs = search needs
+
+after-requires : tie.Need-after-requires
+after-requires c κs = search needs
 
 returns : tie.Need-returns
-returns c = c .changed .ensures ∙ c .before .change .ensures
+unfolding answerOf
+returns c = rw (c .before .number .ensures, c .after .ensures) (c .before .before .change .ensures)
 
 pub frame-spec : {M : Type 1} → statement M
-frame-spec = tie.close (tie.spec change-requires changed-requires returns)
+frame-spec = tie.close (tie.spec change-requires number-requires after-requires returns)

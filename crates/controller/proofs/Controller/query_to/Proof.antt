@@ -1,5 +1,5 @@
 -- `controller::Controller::query_to` meets its contract. Assumes nothing.
-use Rattle.controller.specs.Frame.{queryTo, answerOf}
+use Rattle.controller.specs.Frame.{queryTo, answerOf, withQueries}
 use borrow.Author.Needs.{needs}
 use Rattle.controller.proofs.Controller.query_to.Statement.{statement}
 use Rattle.controller.proofs.Controller.query_to.Tie as tie
@@ -11,7 +11,7 @@ ask-requires : tie.Need-ask-requires
 ask-requires c κs = search needs
 
 returns : tie.Need-returns
-unfolding queryTo answerOf
+unfolding queryTo answerOf withQueries
 returns c = rw (c .ask .ensures, c .before .kind-of .ensures)
 
 pub query-to-spec : {M : Type 1} → statement M
