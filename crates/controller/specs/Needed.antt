@@ -1,4 +1,4 @@
--- What a tick works out of the cells: as much as something looks at. Promised of inner functions alone; the laws of proofs/Quiet.antt say that
+-- What a tick works out of the cells: at least as much as something looks at. Promised of inner functions alone; the laws of proofs/Quiet.antt say that
 -- the session, its frames and the broadcasts are as with all of it, so a reader of the public promises needs neither.
 use Prim.Native.Nat.{ℕ}
 use mathlib.Core.Bool.{cond}

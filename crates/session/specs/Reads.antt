@@ -1,5 +1,5 @@
--- Which ticks look at the cells, and which of these closer than at their number and the highest voltage (01, "Session by tick"). Where a tick does
--- not, its outcome is the same for any cells (the law `unread`, proofs/Unread.antt) or for any with the same two figures (`glanced`,
+-- Which ticks may look at the cells, and which of these closer than at their number and the highest voltage (01, "Session by tick"). Where it is said
+-- that a tick does not, its outcome is the same for any cells (the law `unread`, proofs/Unread.antt) or for any with the same two figures (`glanced`,
 -- proofs/Glance.antt), so the rest need not be worked out for it.
 use Prim.Native.Nat.{ℕ}
 use mathlib.Core.Bool.{Bool, true, false, not, _&&_, _||_}
@@ -23,7 +23,7 @@ unfoldable pub stoppingReads : ℕ → Est → Bool
 stoppingReads count Awaited = ltb count 600
 stoppingReads count (Fixed first second) = ltb count 600 && isFifth count
 
--- Charging asks on each tick whether a cell is at the maximum; the frames of the other states have nothing of the cells
+-- Charging may ask on any tick whether a cell is at the maximum; the frames of the other states have nothing of the cells
 unfoldable pub readsCells : State → ℕ → Bool
 readsCells Idle count = false
 readsCells Offered count = false
