@@ -160,7 +160,8 @@ impl Holder {
     pub fn after(self, f: Framed) -> Holder {
         let mut h = self;
         let c = self.controller;
-        let next = c.after(f.change);
+        let change = f.change;
+        let next = c.after(change);
         h.controller = next;
         h.out = f.out;
         h
