@@ -1,7 +1,7 @@
 // Replays a list of calls: reads them on standard input, a line each (crate scripts), and writes what the controller answers, sends and
 // enters. A blank line or one that begins with `#` is ignored; one that asks for nothing known is answered `unreadable line N`. This
 // crate only joins: it may not know how a line is written, how an answer is printed, or any rule of the paper.
-ghost use Prim.Native.Nat.{_≤_};
+ghost use Prim.Native.Nat.{_<_};
 use libc::STDIN_FILENO;
 use printing::Out;
 use reports::Buffer;
@@ -10,76 +10,95 @@ use scripts::lent::Temperatures;
 use scripts::lent::Voltages;
 use words::Text;
 use words::lines;
-use words::lines::Input;
 use words::lines::Rest;
 use words::numbers::Bytes;
 
-// A run, the line that it is in, and whether there may be more input.
+// A run, how much is held of the line that it is in, what is known of that line's beginning where it was dropped, and whether there may be
+// more input.
 struct Place {
     run: Run,
-    used: usize,
+    filled: usize,
     rest: Rest,
     more: bool,
 }
 
-// As many bytes as were read; at the input's end one, the newline that ends the last line.
-fn or_end(input: &mut Input, count: usize) -> usize
-    requires { ⌜ count ≤ 65536 ⌝ }
-    ensures { λ r. ⌜ r ≤ 65536 ⌝ }
-{
-    if count == 0 {
-        input[0] = b'\n';
-        return 1;
+// One read of the input, from a place on: how many bytes.
+fn fill(buf: &mut [u8], from: usize) -> usize {
+    if buf.len() < from {
+        return 0;
     }
-    count
+    let part = &mut buf[from..];
+    let got = libc::read(STDIN_FILENO, part);
+    io::count(got, part)
 }
 
-// One read of the input, whose end also ends its last line.
+// How much is held after a read of so many bytes; at the input's end one more, the newline that ends the last line.
+fn or_end(text: &mut Text, filled: usize, count: usize) -> usize {
+    if filled < 65536 {
+        if count == 0 {
+            text[filled] = b'\n';
+            return filled + 1;
+        }
+        if count <= 65536 - filled {
+            return filled + count;
+        }
+    }
+    65536
+}
+
+// The place of the next line, which is past the one that was carried out.
+fn further(at: usize, next: usize, last: usize) -> usize
+    requires { ⌜ at < last ⌝ }
+    ensures { λ r. ⌜ at < r ⌝ }
+{
+    if at < next { next } else { last }
+}
+
+// The beginning of a line, moved to the start to be read on; more than a line may have is dropped.
+fn carried(r: Run, text: &mut Text, at: usize, n: usize, rest: Rest, more: bool) -> Place {
+    let k = lines::moved(text, at, n);
+    if k <= 4096 {
+        return Place {
+            run: r,
+            filled: k,
+            rest: rest,
+            more: more,
+        };
+    }
+    Place {
+        run: r,
+        filled: 0,
+        rest: rest.past(text, k),
+        more: more,
+    }
+}
+
+// One read of the input, and the lines that it ends. The end of the input also ends its last line.
 fn chunk(
     p: Place,
-    input: &mut Input,
-    kept: &mut Text,
+    text: &mut Text,
     bytes: &mut Bytes,
     v: &mut Voltages,
     t: &mut Temperatures,
     buf: &mut Buffer,
     o: &mut Out,
 ) -> Place {
-    let got = libc::read(STDIN_FILENO, input);
-    let count = io::count(got, input);
-    let n = or_end(input, count);
+    let count = fill(text, p.filled);
+    let n = or_end(text, p.filled, count);
+    let last = lines::past_last(text, n);
     let mut r = p.run;
-    let mut used = p.used;
     let mut rest = p.rest;
-    let mut i = 0;
-    while i < n {
-        let k = lines::take(input, n, i, kept, used);
-        i = k.at;
-        used = k.used;
-        if i < n {
-            let b = input[i];
-            if b == b'\n' {
-                lines::close(kept, used);
-                r = r.ended(rest, kept, bytes, v, t, buf, o);
-                used = 0;
-                rest = Rest::start();
-            } else {
-                rest = rest.with(b);
-            }
-            i += 1;
-        }
+    let mut at = 0;
+    while at < last {
+        r = r.ended(rest, text, at, bytes, v, t, buf, o);
+        at = further(at, r.at, last);
+        rest = Rest::start();
     }
-    Place {
-        run: r,
-        used: used,
-        rest: rest,
-        more: 0 < count,
-    }
+    carried(r, text, last, n, rest, 0 < count)
 }
 
 fn main() {
-    let mut input = [0u8; 65536];
-    let mut kept = [0u8; 4097];
+    let mut text = [0u8; 65536];
     let mut bytes = [0u8; 2048];
     let mut v = [0u16; 512];
     let mut t = [0i16; 512];
@@ -90,7 +109,7 @@ fn main() {
     t[0] = 70;
     let mut p = Place {
         run: Run::start(),
-        used: 0,
+        filled: 0,
         rest: Rest::start(),
         more: true,
     };
@@ -99,16 +118,7 @@ fn main() {
         if !p.more {
             break;
         }
-        p = chunk(
-            p,
-            &mut input,
-            &mut kept,
-            &mut bytes,
-            &mut v,
-            &mut t,
-            &mut buf,
-            &mut o,
-        );
+        p = chunk(p, &mut text, &mut bytes, &mut v, &mut t, &mut buf, &mut o);
         turns -= 1;
     }
     let r = p.run;

@@ -16,12 +16,13 @@ use words::lines::Rest;
 use words::numbers::Bytes;
 
 // All that a run keeps from line to line, but for the tables and the buffers: the controller with the free place of the output, what
-// ticks are lent, the clock and the line's number.
+// ticks are lent, the clock, the line's number and the place past its newline.
 pub struct Run {
     pub holder: Holder,
     pub lent: Lent,
     pub clock: Clock,
     pub number: u64,
+    pub at: usize,
 }
 
 // What is held after a frame of a log, and the clock then.
@@ -68,15 +69,17 @@ impl Run {
             lent: Lent::start(),
             clock: Clock::start(),
             number: 0,
+            at: 0,
         }
     }
 
-    // The end of a line. What is held is changed in one local, whose address the calls take, so that it is not taken apart and put
+    // The line at a place of the text, carried out. What is held is changed in one local, whose address the calls take, so that it is not taken apart and put
     // together again at each line.
     pub fn ended(
         self,
         rest: Rest,
-        line: &Text,
+        text: &Text,
+        at: usize,
         bytes: &mut Bytes,
         v: &mut Voltages,
         t: &mut Temperatures,
@@ -87,7 +90,10 @@ impl Run {
         let mut h = self.holder;
         let number = calls::next(self.number);
         r.number = number;
-        match scripts::read_line(line, rest, bytes) {
+        let k = scripts::read_line(text, at, rest, bytes);
+        r.at = words::after(k.end);
+        let asked = k.asked;
+        match asked {
             Asked::Nothing => {}
             Asked::Frame(id, n) => {
                 let f = h.frame(id, bytes, n, o);
@@ -100,7 +106,7 @@ impl Run {
             }
             Asked::Lends(what) => {
                 let l = self.lent;
-                match scripts::lent_by(what, line, l, v, t) {
+                match scripts::lent_by(what, text, at, l, v, t) {
                     Lending::Of(l) => r.lent = l,
                     Lending::Not => h = h.unreadable(number, o),
                 }

@@ -35,12 +35,12 @@ fn microseconds(s: u64, u: u64) -> u64 {
 }
 
 // (SECONDS.MICROS), 1 to 12 digits and six.
-pub fn read_time(line: &Text, w: Word) -> Time {
-    let s = numbers::read_digits(line, words::after(w.from));
-    let u = numbers::read_digits(line, words::after(s.at));
-    let opens = words::byte_at(line, w.from) == b'(';
-    let dot = words::byte_at(line, s.at) == b'.';
-    let closes = words::byte_at(line, u.at) == b')';
+pub fn read_time(text: &Text, w: Word) -> Time {
+    let s = numbers::read_digits(text, words::after(w.from));
+    let u = numbers::read_digits(text, words::after(s.at));
+    let opens = words::byte_at(text, w.from) == b'(';
+    let dot = words::byte_at(text, s.at) == b'.';
+    let closes = words::byte_at(text, u.at) == b')';
     let ends = words::after(u.at) == w.to;
     let seconds = (1 <= s.count) & (s.count <= 12);
     if opens & (dot & (closes & (ends & (seconds & (u.count == 6))))) {

@@ -5,7 +5,7 @@ use words::numbers;
 use words::numbers::Bytes;
 use words::numbers::Hex;
 
-// The kinds of line, by their first word. A line that is too long to be kept is of none.
+// The kinds of line, by their first word. A line whose beginning was dropped is of none.
 pub enum Kind {
     Ignored,
     Settings,
@@ -31,39 +31,39 @@ pub enum Counted {
     Not,
 }
 
-// A received frame in a line: its identifier and the number of its data bytes.
+// A received frame in a line: its identifier, the number of its data bytes, and the place of the line's newline.
 pub enum Received {
-    Frame(u32, usize),
+    Frame(u32, usize, usize),
     Not,
 }
 
-// The kind of a line whose first word begins at a place, and of which there is so much more than is kept.
-pub fn kind_of(line: &Text, from: usize, rest: Rest) -> Kind {
-    if rest.is_ignored(line, from) {
+// The kind of a line whose first word begins at a place, where `rest` is what is known of a beginning that was dropped.
+pub fn kind_of(text: &Text, from: usize, rest: Rest) -> Kind {
+    if rest.is_ignored(text, from) {
         return Kind::Ignored;
     }
     if rest.some {
         return Kind::Unknown;
     }
-    by_word(line, from)
+    by_word(text, from)
 }
 
 // What no other word begins is a frame.
-fn by_word(line: &Text, from: usize) -> Kind {
-    match words::byte_at(line, from) {
-        b't' => timely(line, from),
-        b'r' => word_or_frame(line, from, b"readings", Kind::Lends(Lend::Readings)),
-        b'v' => word_or_frame(line, from, b"voltages", Kind::Lends(Lend::Voltages)),
-        b'b' => word_or_frame(line, from, b"buffer", Kind::Lends(Lend::Buffer)),
-        b's' => word_or_frame(line, from, b"settings", Kind::Settings),
-        b'w' => word_or_frame(line, from, b"write", Kind::Write),
+fn by_word(text: &Text, from: usize) -> Kind {
+    match words::byte_at(text, from) {
+        b't' => timely(text, from),
+        b'r' => word_or_frame(text, from, b"readings", Kind::Lends(Lend::Readings)),
+        b'v' => word_or_frame(text, from, b"voltages", Kind::Lends(Lend::Voltages)),
+        b'b' => word_or_frame(text, from, b"buffer", Kind::Lends(Lend::Buffer)),
+        b's' => word_or_frame(text, from, b"settings", Kind::Settings),
+        b'w' => word_or_frame(text, from, b"write", Kind::Write),
         b'(' => Kind::Log,
         _ => Kind::Frame,
     }
 }
 
-fn word_or_frame(line: &Text, from: usize, s: &[u8], k: Kind) -> Kind {
-    if words::is_word(line, from, s) {
+fn word_or_frame(text: &Text, from: usize, s: &[u8], k: Kind) -> Kind {
+    if words::is_word(text, from, s) {
         k
     } else {
         Kind::Frame
@@ -71,31 +71,31 @@ fn word_or_frame(line: &Text, from: usize, s: &[u8], k: Kind) -> Kind {
 }
 
 // The two words that begin with the same letter.
-fn timely(line: &Text, from: usize) -> Kind {
-    if words::is_word(line, from, b"tick") {
+fn timely(text: &Text, from: usize) -> Kind {
+    if words::is_word(text, from, b"tick") {
         return Kind::Tick;
     }
-    word_or_frame(line, from, b"temperatures", Kind::Lends(Lend::Temperatures))
+    word_or_frame(text, from, b"temperatures", Kind::Lends(Lend::Temperatures))
 }
 
 // The bytes of a settings record, or `-`: how many, where they are the last word of their line.
-pub fn record(line: &Text, from: usize, bytes: &mut Bytes) -> Counted {
-    let b = words::byte_at(line, from);
+pub fn record(text: &Text, from: usize, bytes: &mut Bytes) -> Counted {
+    let b = words::byte_at(text, from);
     if b == b'\n' {
         return Counted::Not;
     }
     if b == b'-' {
-        return closed(line, words::after(from), 0);
+        return closed(text, words::after(from), 0);
     }
-    match numbers::read_hex(line, from, bytes) {
-        Hex::Bytes(n, at) => closed(line, at, n),
+    match numbers::read_hex(text, from, bytes) {
+        Hex::Bytes(n, at) => closed(text, at, n),
         Hex::Not => Counted::Not,
     }
 }
 
 // So many bytes, where no word begins or goes on from a place on.
-fn closed(line: &Text, at: usize, n: usize) -> Counted {
-    if words::is_end(line, at) {
+fn closed(text: &Text, at: usize, n: usize) -> Counted {
+    if words::is_end(text, at) {
         Counted::Of(n)
     } else {
         Counted::Not
@@ -103,32 +103,33 @@ fn closed(line: &Text, at: usize, n: usize) -> Counted {
 }
 
 // A frame whose data stand from a place on, to the end of the line.
-fn identified(id: u32, line: &Text, from: usize, bytes: &mut Bytes) -> Received {
-    let Hex::Bytes(n, at) = numbers::read_hex(line, from, bytes) else {
+fn identified(id: u32, text: &Text, from: usize, bytes: &mut Bytes) -> Received {
+    let Hex::Bytes(n, at) = numbers::read_hex(text, from, bytes) else {
         return Received::Not;
     };
     if 64 < n {
         return Received::Not;
     }
-    if words::is_end(line, at) {
-        Received::Frame(id, n)
+    let end = words::skip_last(text, at);
+    if words::byte_at(text, end) == b'\n' {
+        Received::Frame(id, n, end)
     } else {
         Received::Not
     }
 }
 
 // ID#DATA, the last word of its line. A ninth digit would stand where the `#` must.
-pub fn read_frame(line: &Text, from: usize, bytes: &mut Bytes) -> Received {
-    let d = numbers::read_hex_digits(line, from);
+pub fn read_frame(text: &Text, from: usize, bytes: &mut Bytes) -> Received {
+    let d = numbers::read_hex_digits(text, from);
     let at = d.at;
     if at <= from {
         return Received::Not;
     }
-    if 4096 <= at {
+    if 65536 <= at {
         return Received::Not;
     }
-    if line[at] != b'#' {
+    if text[at] != b'#' {
         return Received::Not;
     }
-    identified(d.value, line, at + 1, bytes)
+    identified(d.value, text, at + 1, bytes)
 }

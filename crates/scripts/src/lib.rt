@@ -20,6 +20,7 @@ use lent::Temperatures;
 use lent::Voltages;
 use tables::Table;
 use words::Text;
+use words::lines;
 use words::lines::Rest;
 use words::numbers::Bytes;
 
@@ -42,6 +43,12 @@ pub enum Asked {
     Unknown,
 }
 
+// What a line asks for, and the place of its newline.
+pub struct Line {
+    pub asked: Asked,
+    pub end: usize,
+}
+
 // What each later tick is lent, by a line that sets it.
 pub enum Lending {
     Of(Lent),
@@ -51,17 +58,20 @@ pub enum Lending {
 // The longest buffer that a line may ask for.
 const MOST: u64 = 4096;
 
+// As many characters as a line may have.
+const LONGEST: usize = 4096;
+
 // A settings record.
-fn settings(line: &Text, from: usize, bytes: &mut Bytes) -> Asked {
-    let at = words::end(line, from);
-    match forms::record(line, words::skip(line, at), bytes) {
+fn settings(text: &Text, from: usize, bytes: &mut Bytes) -> Asked {
+    let at = words::end(text, from);
+    match forms::record(text, words::skip(text, at), bytes) {
         Counted::Of(n) => Asked::Settings(n),
         Counted::Not => Asked::Unknown,
     }
 }
 
-fn readings(line: &Text, at: usize, l: Lent) -> Lending {
-    let k = tables::read_readings(line, at);
+fn readings(text: &Text, at: usize, l: Lent) -> Lending {
+    let k = tables::read_readings(text, at);
     if k.good {
         let x = k.readings;
         Lending::Of(l.with_readings(x))
@@ -70,20 +80,20 @@ fn readings(line: &Text, at: usize, l: Lent) -> Lending {
     }
 }
 
-fn voltages(line: &Text, at: usize, l: Lent, v: &mut Voltages) -> Lending {
-    match tables::count_numbers(line, at, false) {
+fn voltages(text: &Text, at: usize, l: Lent, v: &mut Voltages) -> Lending {
+    match tables::count_numbers(text, at, false) {
         Table::Of(n) => {
-            tables::keep_voltages(line, at, n, v);
+            tables::keep_voltages(text, at, n, v);
             Lending::Of(l.with_volts(n))
         }
         Table::Not => Lending::Not,
     }
 }
 
-fn temperatures(line: &Text, at: usize, l: Lent, t: &mut Temperatures) -> Lending {
-    match tables::count_numbers(line, at, true) {
+fn temperatures(text: &Text, at: usize, l: Lent, t: &mut Temperatures) -> Lending {
+    match tables::count_numbers(text, at, true) {
         Table::Of(n) => {
-            tables::keep_temperatures(line, at, n, t);
+            tables::keep_temperatures(text, at, n, t);
             Lending::Of(l.with_temps(n))
         }
         Table::Not => Lending::Not,
@@ -95,8 +105,8 @@ fn place(x: u64) -> usize {
     if x <= MOST { x as usize } else { 0 }
 }
 
-fn buffer(line: &Text, at: usize, l: Lent) -> Lending {
-    let f = tables::only(line, at, MOST);
+fn buffer(text: &Text, at: usize, l: Lent) -> Lending {
+    let f = tables::only(text, at, MOST);
     if f.good {
         Lending::Of(l.with_room(place(f.value)))
     } else {
@@ -104,27 +114,28 @@ fn buffer(line: &Text, at: usize, l: Lent) -> Lending {
     }
 }
 
-// What ticks are lent after a line that sets it, where `l` is what they are lent before.
+// What ticks are lent after a line at a place that sets it, where `l` is what they are lent before.
 pub fn lent_by(
     what: Lend,
-    line: &Text,
+    text: &Text,
+    at: usize,
     l: Lent,
     v: &mut Voltages,
     t: &mut Temperatures,
 ) -> Lending {
-    let from = words::skip(line, 0);
-    let at = words::end(line, from);
+    let from = words::skip(text, at);
+    let past = words::end(text, from);
     match what {
-        Lend::Readings => readings(line, at, l),
-        Lend::Voltages => voltages(line, at, l, v),
-        Lend::Temperatures => temperatures(line, at, l, t),
-        Lend::Buffer => buffer(line, at, l),
+        Lend::Readings => readings(text, past, l),
+        Lend::Voltages => voltages(text, past, l, v),
+        Lend::Temperatures => temperatures(text, past, l, t),
+        Lend::Buffer => buffer(text, past, l),
     }
 }
 
 // The settings in use, into a buffer of a length.
-fn write(line: &Text, from: usize) -> Asked {
-    let f = tables::only(line, words::end(line, from), MOST);
+fn write(text: &Text, from: usize) -> Asked {
+    let f = tables::only(text, words::end(text, from), MOST);
     if f.good {
         Asked::Write(place(f.value))
     } else {
@@ -133,8 +144,8 @@ fn write(line: &Text, from: usize) -> Asked {
 }
 
 // So many ticks.
-fn ticks(line: &Text, from: usize) -> Asked {
-    let f = tables::one_or(line, words::end(line, from), 10_000_000);
+fn ticks(text: &Text, from: usize) -> Asked {
+    let f = tables::one_or(text, words::end(text, from), 10_000_000);
     if f.good {
         Asked::Ticks(f.value)
     } else {
@@ -142,38 +153,63 @@ fn ticks(line: &Text, from: usize) -> Asked {
     }
 }
 
-fn frame(line: &Text, from: usize, bytes: &mut Bytes) -> Asked {
-    match forms::read_frame(line, from, bytes) {
-        Received::Frame(id, n) => Asked::Frame(id, n),
-        Received::Not => Asked::Unknown,
+// A line that begins at a place and ends at another. It may have 4,096 characters; a longer one cannot be read.
+fn within(at: usize, end: usize, asked: Asked) -> Line {
+    if at < end {
+        if LONGEST < end - at {
+            return Line {
+                asked: Asked::Unknown,
+                end: end,
+            };
+        }
+    }
+    Line {
+        asked: asked,
+        end: end,
+    }
+}
+
+// The same, where the newline is still to be found.
+fn whole(text: &Text, at: usize, from: usize, asked: Asked) -> Line {
+    within(at, lines::line_end(text, from), asked)
+}
+
+fn frame(text: &Text, at: usize, from: usize, bytes: &mut Bytes) -> Line {
+    match forms::read_frame(text, from, bytes) {
+        Received::Frame(id, n, end) => within(at, end, Asked::Frame(id, n)),
+        Received::Not => whole(text, at, from, Asked::Unknown),
     }
 }
 
 // (SECONDS.MICROS) IFACE ID#DATA.
-fn log(line: &Text, from: usize, bytes: &mut Bytes) -> Asked {
-    let w = words::next_word(line, from);
-    let face = words::next_word(line, w.to);
-    let last = words::skip(line, face.to);
-    let Received::Frame(id, n) = forms::read_frame(line, last, bytes) else {
-        return Asked::Unknown;
+fn log(text: &Text, at: usize, from: usize, bytes: &mut Bytes) -> Line {
+    let w = words::next_word(text, from);
+    let face = words::next_word(text, w.to);
+    let last = words::skip(text, face.to);
+    let Received::Frame(id, n, end) = forms::read_frame(text, last, bytes) else {
+        return whole(text, at, from, Asked::Unknown);
     };
-    match clock::read_time(line, w) {
-        Time::At(now) => Asked::Logged(now, id, n),
-        Time::Not => Asked::Unknown,
+    match clock::read_time(text, w) {
+        Time::At(now) => within(at, end, Asked::Logged(now, id, n)),
+        Time::Not => within(at, end, Asked::Unknown),
     }
 }
 
-// What a line asks for, where `rest` is what is known of it past the characters that are kept. The bytes that it gives are laid into `bytes`.
-pub fn read_line(line: &Text, rest: Rest, bytes: &mut Bytes) -> Asked {
-    let from = words::skip(line, 0);
-    match forms::kind_of(line, from, rest) {
-        Kind::Ignored => Asked::Nothing,
-        Kind::Settings => settings(line, from, bytes),
-        Kind::Lends(what) => Asked::Lends(what),
-        Kind::Tick => ticks(line, from),
-        Kind::Frame => frame(line, from, bytes),
-        Kind::Log => log(line, from, bytes),
-        Kind::Write => write(line, from),
-        Kind::Unknown => Asked::Unknown,
+// What the line at a place asks for, where `rest` is what is known of a beginning that was dropped. The bytes that it gives are laid into
+// `bytes`. A frame's newline is found as it is read; any other line is walked once more to its end.
+pub fn read_line(text: &Text, at: usize, rest: Rest, bytes: &mut Bytes) -> Line {
+    let from = words::skip(text, at);
+    match forms::kind_of(text, from, rest) {
+        Kind::Ignored => Line {
+            asked: Asked::Nothing,
+            end: lines::line_end(text, from),
+        },
+        Kind::Settings => whole(text, at, from, settings(text, from, bytes)),
+        Kind::Lends(what) => whole(text, at, from, Asked::Lends(what)),
+        Kind::Tick => whole(text, at, from, ticks(text, from)),
+        Kind::Frame => frame(text, at, from, bytes),
+        Kind::Log => log(text, at, from, bytes),
+        Kind::Write => whole(text, at, from, write(text, from)),
+        Kind::Unknown => whole(text, at, from, Asked::Unknown),
     }
 }

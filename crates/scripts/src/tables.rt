@@ -35,9 +35,9 @@ fn wide(x: u64) -> u16 {
 }
 
 // The next number, at most so much.
-fn next_part(line: &Text, at: usize, most: u64) -> Part {
-    let w = words::next_word(line, at);
-    let n = numbers::read_number(line, w);
+fn next_part(text: &Text, at: usize, most: u64) -> Part {
+    let w = words::next_word(text, at);
+    let n = numbers::read_number(text, w);
     let f = n.up_to(most);
     Part {
         good: f.good,
@@ -47,20 +47,20 @@ fn next_part(line: &Text, at: usize, most: u64) -> Part {
 }
 
 // Ten numbers and no more.
-pub fn read_readings(line: &Text, at: usize) -> ReadingsRead {
-    let one = next_part(line, at, 255);
-    let two = next_part(line, one.at, 255);
-    let soc = next_part(line, two.at, 255);
-    let w = words::next_word(line, soc.at);
-    let n = numbers::read_number(line, w);
+pub fn read_readings(text: &Text, at: usize) -> ReadingsRead {
+    let one = next_part(text, at, 255);
+    let two = next_part(text, one.at, 255);
+    let soc = next_part(text, two.at, 255);
+    let w = words::next_word(text, soc.at);
+    let n = numbers::read_number(text, w);
     let current = n.signed();
-    let pack = next_part(line, w.to, 65535);
-    let capacity = next_part(line, pack.at, 65535);
-    let af = next_part(line, capacity.at, 255);
-    let lf = next_part(line, af.at, 255);
-    let aw = next_part(line, lf.at, 255);
-    let lw = next_part(line, aw.at, 255);
-    let ends = words::is_end(line, lw.at);
+    let pack = next_part(text, w.to, 65535);
+    let capacity = next_part(text, pack.at, 65535);
+    let af = next_part(text, capacity.at, 255);
+    let lf = next_part(text, af.at, 255);
+    let aw = next_part(text, lf.at, 255);
+    let lw = next_part(text, aw.at, 255);
+    let ends = words::is_end(text, lw.at);
     let first = one.good & (two.good & (soc.good & (current.good & pack.good)));
     let second = capacity.good & (af.good & (lf.good & (aw.good & lw.good)));
     ReadingsRead {
@@ -85,15 +85,15 @@ pub fn read_readings(line: &Text, at: usize) -> ReadingsRead {
 }
 
 // How many numbers there are from a place on: at most 512, each a 16-bit number, signed or not.
-pub fn count_numbers(line: &Text, from: usize, signed: bool) -> Table {
+pub fn count_numbers(text: &Text, from: usize, signed: bool) -> Table {
     let mut n = 0;
     let mut at = from;
     while n <= 512 {
-        let w = words::next_word(line, at);
+        let w = words::next_word(text, at);
         if w.is_empty() {
             return Table::Of(n);
         }
-        let x = numbers::read_number(line, w);
+        let x = numbers::read_number(text, w);
         let a = x.signed();
         let b = x.up_to(65535);
         let good = if signed { a.good } else { b.good };
@@ -106,29 +106,29 @@ pub fn count_numbers(line: &Text, from: usize, signed: bool) -> Table {
     Table::Not
 }
 
-pub fn keep_voltages(line: &Text, from: usize, n: usize, v: &mut Voltages) {
+pub fn keep_voltages(text: &Text, from: usize, n: usize, v: &mut Voltages) {
     let mut at = from;
     let mut i = 0;
     while i < 512 {
         if n <= i {
             break;
         }
-        let p = next_part(line, at, 65535);
+        let p = next_part(text, at, 65535);
         v[i] = wide(p.value);
         at = p.at;
         i += 1;
     }
 }
 
-pub fn keep_temperatures(line: &Text, from: usize, n: usize, t: &mut Temperatures) {
+pub fn keep_temperatures(text: &Text, from: usize, n: usize, t: &mut Temperatures) {
     let mut at = from;
     let mut i = 0;
     while i < 512 {
         if n <= i {
             break;
         }
-        let w = words::next_word(line, at);
-        let x = numbers::read_number(line, w);
+        let w = words::next_word(text, at);
+        let x = numbers::read_number(text, w);
         let f = x.signed();
         let y = f.value;
         t[i] = y;
@@ -138,9 +138,9 @@ pub fn keep_temperatures(line: &Text, from: usize, n: usize, t: &mut Temperature
 }
 
 // The one number of a line.
-pub fn only(line: &Text, at: usize, most: u64) -> Fit {
-    let p = next_part(line, at, most);
-    let ends = words::is_end(line, p.at);
+pub fn only(text: &Text, at: usize, most: u64) -> Fit {
+    let p = next_part(text, at, most);
+    let ends = words::is_end(text, p.at);
     Fit {
         good: p.good & ends,
         value: p.value,
@@ -148,13 +148,13 @@ pub fn only(line: &Text, at: usize, most: u64) -> Fit {
 }
 
 // The same, or 1 where there is none.
-pub fn one_or(line: &Text, at: usize, most: u64) -> Fit {
-    if words::is_end(line, at) {
+pub fn one_or(text: &Text, at: usize, most: u64) -> Fit {
+    if words::is_end(text, at) {
         Fit {
             good: true,
             value: 1,
         }
     } else {
-        only(line, at, most)
+        only(text, at, most)
     }
 }

@@ -1,36 +1,37 @@
-// Lines of text: the input cut into lines, the words of a line, and the numbers and bytes that they are. A line is kept with the newline
-// that ends it, so that a walk along it stops there by itself. This crate may not know what a line means, nor any controller.
+// Lines of text: where they end in the input, the words of a line, and the numbers and bytes that they are. A line is read where it stands,
+// with the newline that ends it, so that a walk along it stops there by itself. This crate may not know what a line means, nor any
+// controller.
 pub mod lines;
 pub mod numbers;
 
-// The characters of a line, at most 4096, and the newline past them.
-pub type Text = [u8; 4097];
+// As much of the input as is held at once: whole lines, each with its newline, and the beginning of one more.
+pub type Text = [u8; 65536];
 
 // A space, a tab or a carriage return: what stands between words.
 pub fn is_gap(b: u8) -> bool {
     (b == b' ') | ((b == b'\t') | (b == b'\r'))
 }
 
-// The part of a line from a place up to another; empty where there is no word.
+// The part of the text from a place up to another; empty where there is no word.
 pub struct Word {
     pub from: usize,
     pub to: usize,
 }
 
-pub fn byte_at(line: &Text, at: usize) -> u8 {
-    if at < 4097 { line[at] } else { b'\n' }
+pub fn byte_at(text: &Text, at: usize) -> u8 {
+    if at < 65536 { text[at] } else { b'\n' }
 }
 
-// The next place, up to the end of the longest line.
+// The next place, up to the end of the text.
 pub fn after(at: usize) -> usize {
-    if at < 4096 { at + 1 } else { 4096 }
+    if at < 65536 { at + 1 } else { 65536 }
 }
 
 // The first place from one on that is no gap.
-pub fn skip(line: &Text, from: usize) -> usize {
+pub fn skip(text: &Text, from: usize) -> usize {
     let mut at = from;
-    while at < 4096 {
-        if !is_gap(line[at]) {
+    while at < 65536 {
+        if !is_gap(text[at]) {
             break;
         }
         at += 1;
@@ -39,10 +40,10 @@ pub fn skip(line: &Text, from: usize) -> usize {
 }
 
 // The first place from one on where no word goes on.
-pub fn end(line: &Text, from: usize) -> usize {
+pub fn end(text: &Text, from: usize) -> usize {
     let mut at = from;
-    while at < 4096 {
-        let b = line[at];
+    while at < 65536 {
+        let b = text[at];
         if is_gap(b) {
             break;
         }
@@ -55,11 +56,11 @@ pub fn end(line: &Text, from: usize) -> usize {
 }
 
 // The first word from a place on.
-pub fn next_word(line: &Text, from: usize) -> Word {
-    let at = skip(line, from);
+pub fn next_word(text: &Text, from: usize) -> Word {
+    let at = skip(text, from);
     Word {
         from: at,
-        to: end(line, at),
+        to: end(text, at),
     }
 }
 
@@ -69,26 +70,31 @@ impl Word {
     }
 }
 
-// No word from a place on. Most lines end right there.
-pub fn is_end(line: &Text, from: usize) -> bool {
-    if byte_at(line, from) == b'\n' {
-        return true;
+// The same as `skip` past the last word of a line. Most lines end right there.
+pub fn skip_last(text: &Text, from: usize) -> usize {
+    if byte_at(text, from) == b'\n' {
+        return from;
     }
-    let at = skip(line, from);
-    byte_at(line, at) == b'\n'
+    skip(text, from)
+}
+
+// No word from a place on.
+pub fn is_end(text: &Text, from: usize) -> bool {
+    let at = skip_last(text, from);
+    byte_at(text, at) == b'\n'
 }
 
 // Whether the word from a place on is this one.
-pub fn is_word(line: &Text, from: usize, s: &[u8]) -> bool {
+pub fn is_word(text: &Text, from: usize, s: &[u8]) -> bool {
     let n = s.len();
     let mut at = from;
     let mut i = 0;
     while i < n {
-        if byte_at(line, at) != s[i] {
+        if byte_at(text, at) != s[i] {
             return false;
         }
         at = after(at);
         i += 1;
     }
-    end(line, at) == at
+    end(text, at) == at
 }

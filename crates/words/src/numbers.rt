@@ -74,7 +74,7 @@ impl Digits {
 }
 
 // The decimal digits from a place on.
-pub fn read_digits(line: &Text, from: usize) -> Digits {
+pub fn read_digits(text: &Text, from: usize) -> Digits {
     let mut d = Digits {
         count: 0,
         value: 0,
@@ -82,7 +82,7 @@ pub fn read_digits(line: &Text, from: usize) -> Digits {
     };
     let mut turns = 4096u64;
     while 0 < turns {
-        let x = digit(byte_at(line, d.at));
+        let x = digit(byte_at(text, d.at));
         if 10 <= x {
             break;
         }
@@ -92,20 +92,20 @@ pub fn read_digits(line: &Text, from: usize) -> Digits {
     d
 }
 
-// The eighth place past one, up to the end of the longest line.
+// The eighth place past one, up to the end of the text.
 fn eighth(from: usize) -> usize
-    ensures { λ r. ⌜ r ≤ 4096 ⌝ }
+    ensures { λ r. ⌜ r ≤ 65536 ⌝ }
 {
-    if from < 4088 { from + 8 } else { 4096 }
+    if from < 65528 { from + 8 } else { 65536 }
 }
 
 // The hex digits from a place on, up to eight.
-pub fn read_hex_digits(line: &Text, from: usize) -> HexDigits {
+pub fn read_hex_digits(text: &Text, from: usize) -> HexDigits {
     let stop = eighth(from);
     let mut value = 0u32;
     let mut at = from;
     while at < stop {
-        let x = digit(line[at]);
+        let x = digit(text[at]);
         if 16 <= x {
             break;
         }
@@ -119,13 +119,13 @@ pub fn read_hex_digits(line: &Text, from: usize) -> HexDigits {
 }
 
 // The word as a decimal number with a sign or none.
-pub fn read_number(line: &Text, w: Word) -> Number {
+pub fn read_number(text: &Text, w: Word) -> Number {
     let from = w.from;
-    let sign = byte_at(line, from);
+    let sign = byte_at(text, from);
     let minus = sign == b'-';
     let signed = minus | (sign == b'+');
     let start = if signed { after(from) } else { from };
-    let d = read_digits(line, start);
+    let d = read_digits(text, start);
     if d.count == 0 {
         return Number::Not;
     }
@@ -191,23 +191,26 @@ fn negative(x: u64) -> i16 {
     0 - y
 }
 
-// How many pairs of characters a line can hold from a place on. The last may have the newline past the longest line for its second.
+// How many pairs of characters are read from a place on: no more than the text holds, nor than the longest line.
 fn pairs(from: usize) -> usize
-    ensures { λ r. ⌜ 2 * r ≤ 4097 - from ⌝ }
+    ensures { λ r. ⌜ (r ≤ 2048) × (2 * r ≤ 65536 - from) ⌝ }
 {
-    if from <= 4096 { (4097 - from) / 2 } else { 0 }
+    if from <= 61440 {
+        return 2048;
+    }
+    if from <= 65536 { (65536 - from) / 2 } else { 0 }
 }
 
 // The bytes in hex from a place on, as far as they go.
-pub fn read_hex(line: &Text, from: usize, out: &mut Bytes) -> Hex {
+pub fn read_hex(text: &Text, from: usize, out: &mut Bytes) -> Hex {
     let most = pairs(from);
     let mut n = 0;
     while n < most {
-        let a = digit(line[from + 2 * n]);
+        let a = digit(text[from + 2 * n]);
         if 16 <= a {
             break;
         }
-        let b = digit(line[from + 2 * n + 1]);
+        let b = digit(text[from + 2 * n + 1]);
         if 16 <= b {
             return Hex::Not;
         }

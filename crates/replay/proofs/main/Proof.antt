@@ -4,10 +4,10 @@ use Rattle.replay.proofs.main.Statement.{statement}
 use Rattle.replay.proofs.main.Tie as tie
 
 abbrev Inv-loop : tie.InvT-loop
-Inv-loop input₀ kept₀ bytes₀ v₀ t₀ buf₀ o₀ p₀ turns₀ input kept bytes v t buf o p turns = Unit {0}
+Inv-loop text₀ bytes₀ v₀ t₀ buf₀ o₀ p₀ turns₀ text bytes v t buf o p turns = Unit {0}
 
 abbrev μ-loop : tie.MeasureT-loop
-μ-loop input₀ kept₀ bytes₀ v₀ t₀ buf₀ o₀ p₀ turns₀ input kept bytes v t buf o p turns = turns
+μ-loop text₀ bytes₀ v₀ t₀ buf₀ o₀ p₀ turns₀ text bytes v t buf o p turns = turns
 
 array-write-v : tie.Need-array-write-v Inv-loop μ-loop
 array-write-v c = search needs

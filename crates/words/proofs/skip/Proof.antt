@@ -5,10 +5,10 @@ use Rattle.words.proofs.skip.Statement.{statement}
 use Rattle.words.proofs.skip.Tie as tie
 
 abbrev Inv-loop : tie.InvT-loop
-Inv-loop line from at₀ at = Unit {0}
+Inv-loop text from at₀ at = Unit {0}
 
 abbrev μ-loop : tie.MeasureT-loop
-μ-loop line from at₀ at = 4096 - at
+μ-loop text from at₀ at = 65536 - at
 
 loop-holds : tie.Need-loop-holds Inv-loop μ-loop
 loop-holds c = search needs

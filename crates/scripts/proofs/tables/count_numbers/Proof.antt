@@ -5,10 +5,10 @@ use Rattle.scripts.proofs.tables.count_numbers.Statement.{statement}
 use Rattle.scripts.proofs.tables.count_numbers.Tie as tie
 
 abbrev Inv-loop : tie.InvT-loop
-Inv-loop line from signed n₀ at₀ n at = Unit {0}
+Inv-loop text from signed n₀ at₀ n at = Unit {0}
 
 abbrev μ-loop : tie.MeasureT-loop
-μ-loop line from signed n₀ at₀ n at = 513 - n
+μ-loop text from signed n₀ at₀ n at = 513 - n
 
 loop-holds : tie.Need-loop-holds Inv-loop μ-loop
 loop-holds c = search needs

@@ -5,10 +5,10 @@ use Rattle.scripts.proofs.tables.keep_temperatures.Statement.{statement
 use Rattle.scripts.proofs.tables.keep_temperatures.Tie as tie
 
 abbrev Inv-loop : tie.InvT-loop
-Inv-loop line from n t₀ at₀ i₀ t at i = Unit {0}
+Inv-loop text from n t₀ at₀ i₀ t at i = Unit {0}
 
 abbrev μ-loop : tie.MeasureT-loop
-μ-loop line from n t₀ at₀ i₀ t at i = 512 - i
+μ-loop text from n t₀ at₀ i₀ t at i = 512 - i
 
 loop-holds : tie.Need-loop-holds Inv-loop μ-loop
 loop-holds c = search needs

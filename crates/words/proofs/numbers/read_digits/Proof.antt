@@ -4,10 +4,10 @@ use Rattle.words.proofs.numbers.read_digits.Statement.{statement}
 use Rattle.words.proofs.numbers.read_digits.Tie as tie
 
 abbrev Inv-loop : tie.InvT-loop
-Inv-loop line from d₀ turns₀ d turns = Unit {0}
+Inv-loop text from d₀ turns₀ d turns = Unit {0}
 
 abbrev μ-loop : tie.MeasureT-loop
-μ-loop line from d₀ turns₀ d turns = turns
+μ-loop text from d₀ turns₀ d turns = turns
 
 loop-holds : tie.Need-loop-holds Inv-loop μ-loop
 loop-holds c = search needs

@@ -1,14 +1,14 @@
--- `words::numbers::read_hex` is safe and ends: the pairs that are left fall, and are no more than the line holds. Assumes nothing.
+-- `words::numbers::read_hex` is safe and ends: the pairs that are left fall, and are no more than the text and the array hold. Assumes nothing.
 use borrow.Author.Needs.{needs}
 use Prim.Native.Nat.{_*_, _-_, _≤_}
 use Rattle.words.proofs.numbers.read_hex.Statement.{statement}
 use Rattle.words.proofs.numbers.read_hex.Tie as tie
 
 abbrev Inv-loop : tie.InvT-loop
-Inv-loop line from out₀ most n₀ out n = (n ≤ most) × (2 * most ≤ 4097 - from)
+Inv-loop text from out₀ most n₀ out n = (n ≤ most) × ((most ≤ 2048) × (2 * most ≤ 65536 - from))
 
 abbrev μ-loop : tie.MeasureT-loop
-μ-loop line from out₀ most n₀ out n = most - n
+μ-loop text from out₀ most n₀ out n = most - n
 
 pairs-requires : tie.Need-pairs-requires Inv-loop μ-loop
 pairs-requires c κs = search needs

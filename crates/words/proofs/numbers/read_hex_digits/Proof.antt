@@ -5,10 +5,10 @@ use Rattle.words.proofs.numbers.read_hex_digits.Statement.{statement}
 use Rattle.words.proofs.numbers.read_hex_digits.Tie as tie
 
 abbrev Inv-loop : tie.InvT-loop
-Inv-loop line from stop value₀ at₀ value at = stop ≤ 4096
+Inv-loop text from stop value₀ at₀ value at = stop ≤ 65536
 
 abbrev μ-loop : tie.MeasureT-loop
-μ-loop line from stop value₀ at₀ value at = stop - at
+μ-loop text from stop value₀ at₀ value at = stop - at
 
 eighth-requires : tie.Need-eighth-requires Inv-loop μ-loop
 eighth-requires c κs = search needs
