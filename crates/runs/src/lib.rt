@@ -1,5 +1,5 @@
-// A run: what is kept from line to line, and what a line asks for, carried out. This crate may not know how the input is cut into lines,
-// how a line is written, nor any rule of the paper.
+// A run: what is kept from line to line, and what a line asks for, carried out. This crate may not know how the input is read, how a line
+// is written, nor any rule of the paper.
 use calls::holder::Holder;
 use printing::Out;
 use reports::Buffer;
@@ -73,8 +73,44 @@ impl Run {
         }
     }
 
-    // The line at a place of the text, carried out. What is held is changed in one local, whose address the calls take, so that it is not taken apart and put
-    // together again at each line.
+    // A line that is neither a frame nor ticks.
+    fn other(
+        self,
+        asked: Asked,
+        text: &Text,
+        at: usize,
+        bytes: &Bytes,
+        v: &mut Voltages,
+        t: &mut Temperatures,
+        buf: &mut Buffer,
+        o: &mut Out,
+    ) -> Run {
+        let mut r = self;
+        let mut h = self.holder;
+        let l = self.lent;
+        match asked {
+            Asked::Lends(what) => match scripts::lent_by(what, text, at, l, v, t) {
+                Lending::Of(lent) => r.lent = lent,
+                Lending::Not => h = h.unreadable(self.number, o),
+            },
+            Asked::Logged(now, id, n) => {
+                let k = self.clock;
+                let later = logged(h, self.number, k, now, id, n, bytes, l, v, t, buf, o);
+                let g = later.holder;
+                let past = later.clock;
+                h = g;
+                r.clock = past;
+            }
+            Asked::Settings(n) => h = h.settings(bytes, n, o),
+            Asked::Write(n) => h = h.write(n, buf, o),
+            _ => h = h.unreadable(self.number, o),
+        }
+        r.holder = h;
+        r
+    }
+
+    // The line at a place of the text, carried out. What is held is changed in one local, whose address the calls take, so that it is not
+    // taken apart and put together again at each line.
     pub fn ended(
         self,
         rest: Rest,
@@ -88,9 +124,8 @@ impl Run {
     ) -> Run {
         let mut r = self;
         let mut h = self.holder;
-        let number = calls::next(self.number);
-        r.number = number;
         let k = scripts::read_line(text, at, rest, bytes);
+        r.number = calls::next(self.number);
         r.at = words::after(k.end);
         let asked = k.asked;
         match asked {
@@ -104,25 +139,11 @@ impl Run {
                 h = h.asked(o);
                 h = h.ticks(n, l, v, t, buf, o);
             }
-            Asked::Lends(what) => {
-                let l = self.lent;
-                match scripts::lent_by(what, text, at, l, v, t) {
-                    Lending::Of(l) => r.lent = l,
-                    Lending::Not => h = h.unreadable(number, o),
-                }
-            }
-            Asked::Logged(now, id, n) => {
-                let l = self.lent;
-                let k = self.clock;
-                let later = logged(h, number, k, now, id, n, bytes, l, v, t, buf, o);
-                let g = later.holder;
-                let past = later.clock;
+            _ => {
+                r = r.other(asked, text, at, bytes, v, t, buf, o);
+                let g = r.holder;
                 h = g;
-                r.clock = past;
             }
-            Asked::Settings(n) => h = h.settings(bytes, n, o),
-            Asked::Write(n) => h = h.write(n, buf, o),
-            Asked::Unknown => h = h.unreadable(number, o),
         }
         r.holder = h;
         r
