@@ -1,7 +1,6 @@
 // Replays a list of calls: reads them on standard input, a line each (crate scripts), and writes what the controller answers, sends and
 // enters. A blank line or one that begins with `#` is ignored; one that asks for nothing known is answered `unreadable line N`. This
 // crate only joins: it may not know how a line is written, how an answer is printed, or any rule of the paper.
-ghost use Prim.Native.Nat.{_<_};
 use libc::STDIN_FILENO;
 use printing::Out;
 use reports::Buffer;
@@ -9,9 +8,9 @@ use runs::Run;
 use scripts::lent::Temperatures;
 use scripts::lent::Voltages;
 use words::Text;
+use words::hex::Bytes;
 use words::lines;
 use words::lines::Rest;
-use words::numbers::Bytes;
 
 // A run, how much is held of the line that it is in, what is known of that line's beginning where it was dropped, and whether there may be
 // more input.
@@ -46,14 +45,6 @@ fn or_end(text: &mut Text, filled: usize, count: usize) -> usize {
     65536
 }
 
-// The place of the next line, which is past the one that was carried out.
-fn further(at: usize, next: usize, last: usize) -> usize
-    requires { ⌜ at < last ⌝ }
-    ensures { λ r. ⌜ at < r ⌝ }
-{
-    if at < next { next } else { last }
-}
-
 // The beginning of a line, moved to the start to be read on; more than a line may have is dropped.
 fn carried(r: Run, text: &mut Text, at: usize, n: usize, rest: Rest, more: bool) -> Place {
     let k = lines::moved(text, at, n);
@@ -86,12 +77,10 @@ fn chunk(
     let count = fill(text, p.filled);
     let n = or_end(text, p.filled, count);
     let last = lines::past_last(text, n);
-    let mut r = p.run;
     let mut rest = p.rest;
-    let mut at = 0;
-    while at < last {
-        r = r.ended(rest, text, at, bytes, v, t, buf, o);
-        at = further(at, r.at, last);
+    let mut r = p.run;
+    r = r.lines(rest, text, last, bytes, v, t, buf, o);
+    if 0 < last {
         rest = Rest::start();
     }
     carried(r, text, last, n, rest, 0 < count)

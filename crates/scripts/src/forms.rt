@@ -1,20 +1,28 @@
 // What kind of line a line is, and the bytes and the frame that stand in it.
+use crate::clock;
+use crate::clock::Time;
 use words::Text;
+use words::hex;
+use words::hex::Bytes;
+use words::hex::Hex;
 use words::lines::Rest;
-use words::numbers;
-use words::numbers::Bytes;
-use words::numbers::Hex;
 
-// The kinds of line, by their first word. A line whose beginning was dropped is of none.
+// The kinds of line, by their first word; of a received frame also where it stands, and when it came. A line whose beginning was dropped
+// is of none.
 pub enum Kind {
     Ignored,
     Settings,
     Lends(Lend),
     Tick,
-    Frame,
-    Log,
+    Frame(usize, When),
     Write,
     Unknown,
+}
+
+// When a frame came: as its line is read, or at the time of a log.
+pub enum When {
+    Now,
+    At(u64),
 }
 
 // What a line sets of what ticks are lent.
@@ -57,8 +65,18 @@ fn by_word(text: &Text, from: usize) -> Kind {
         b'b' => word_or_frame(text, from, b"buffer", Kind::Lends(Lend::Buffer)),
         b's' => word_or_frame(text, from, b"settings", Kind::Settings),
         b'w' => word_or_frame(text, from, b"write", Kind::Write),
-        b'(' => Kind::Log,
-        _ => Kind::Frame,
+        b'(' => logged(text, from),
+        _ => Kind::Frame(from, When::Now),
+    }
+}
+
+// (SECONDS.MICROS) IFACE ID#DATA.
+fn logged(text: &Text, from: usize) -> Kind {
+    let w = words::next_word(text, from);
+    let face = words::next_word(text, w.to);
+    match clock::read_time(text, w) {
+        Time::At(now) => Kind::Frame(words::skip(text, face.to), When::At(now)),
+        Time::Not => Kind::Unknown,
     }
 }
 
@@ -66,7 +84,7 @@ fn word_or_frame(text: &Text, from: usize, s: &[u8], k: Kind) -> Kind {
     if words::is_word(text, from, s) {
         k
     } else {
-        Kind::Frame
+        Kind::Frame(from, When::Now)
     }
 }
 
@@ -87,7 +105,7 @@ pub fn record(text: &Text, from: usize, bytes: &mut Bytes) -> Counted {
     if b == b'-' {
         return closed(text, words::after(from), 0);
     }
-    match numbers::read_hex(text, from, bytes) {
+    match hex::read_bytes(text, from, bytes) {
         Hex::Bytes(n, at) => closed(text, at, n),
         Hex::Not => Counted::Not,
     }
@@ -104,7 +122,7 @@ fn closed(text: &Text, at: usize, n: usize) -> Counted {
 
 // A frame whose data stand from a place on, to the end of the line.
 fn identified(id: u32, text: &Text, from: usize, bytes: &mut Bytes) -> Received {
-    let Hex::Bytes(n, at) = numbers::read_hex(text, from, bytes) else {
+    let Hex::Bytes(n, at) = hex::read_bytes(text, from, bytes) else {
         return Received::Not;
     };
     if 64 < n {
@@ -120,7 +138,7 @@ fn identified(id: u32, text: &Text, from: usize, bytes: &mut Bytes) -> Received 
 
 // ID#DATA, the last word of its line. A ninth digit would stand where the `#` must.
 pub fn read_frame(text: &Text, from: usize, bytes: &mut Bytes) -> Received {
-    let d = numbers::read_hex_digits(text, from);
+    let d = hex::read_digits(text, from);
     let at = d.at;
     if at <= from {
         return Received::Not;

@@ -10,19 +10,19 @@
 //   write N                         the settings in use, into a buffer of N bytes
 // Besides, what ticks are lent, and which are due by a candump log's clock. This crate may not know any controller, nor what a call comes
 // to.
-use clock::Time;
 use forms::Counted;
 use forms::Kind;
 use forms::Lend;
 use forms::Received;
+use forms::When;
 use lent::Lent;
 use lent::Temperatures;
 use lent::Voltages;
 use tables::Table;
 use words::Text;
+use words::hex::Bytes;
 use words::lines;
 use words::lines::Rest;
-use words::numbers::Bytes;
 
 pub mod clock;
 pub mod forms;
@@ -174,24 +174,19 @@ fn whole(text: &Text, at: usize, from: usize, asked: Asked) -> Line {
     within(at, lines::line_end(text, from), asked)
 }
 
-fn frame(text: &Text, at: usize, from: usize, bytes: &mut Bytes) -> Line {
-    match forms::read_frame(text, from, bytes) {
-        Received::Frame(id, n, end) => within(at, end, Asked::Frame(id, n)),
-        Received::Not => whole(text, at, from, Asked::Unknown),
+// What a frame asks for that came then.
+fn asked_by(when: When, id: u32, n: usize) -> Asked {
+    match when {
+        When::Now => Asked::Frame(id, n),
+        When::At(now) => Asked::Logged(now, id, n),
     }
 }
 
-// (SECONDS.MICROS) IFACE ID#DATA.
-fn log(text: &Text, at: usize, from: usize, bytes: &mut Bytes) -> Line {
-    let w = words::next_word(text, from);
-    let face = words::next_word(text, w.to);
-    let last = words::skip(text, face.to);
-    let Received::Frame(id, n, end) = forms::read_frame(text, last, bytes) else {
-        return whole(text, at, from, Asked::Unknown);
-    };
-    match clock::read_time(text, w) {
-        Time::At(now) => within(at, end, Asked::Logged(now, id, n)),
-        Time::Not => within(at, end, Asked::Unknown),
+// A received frame that stands at a place.
+fn frame(text: &Text, at: usize, place: usize, when: When, bytes: &mut Bytes) -> Line {
+    match forms::read_frame(text, place, bytes) {
+        Received::Frame(id, n, end) => within(at, end, asked_by(when, id, n)),
+        Received::Not => whole(text, at, place, Asked::Unknown),
     }
 }
 
@@ -207,8 +202,7 @@ pub fn read_line(text: &Text, at: usize, rest: Rest, bytes: &mut Bytes) -> Line 
         Kind::Settings => whole(text, at, from, settings(text, from, bytes)),
         Kind::Lends(what) => whole(text, at, from, Asked::Lends(what)),
         Kind::Tick => whole(text, at, from, ticks(text, from)),
-        Kind::Frame => frame(text, at, from, bytes),
-        Kind::Log => log(text, at, from, bytes),
+        Kind::Frame(place, when) => frame(text, at, place, when, bytes),
         Kind::Write => whole(text, at, from, write(text, from)),
         Kind::Unknown => whole(text, at, from, Asked::Unknown),
     }

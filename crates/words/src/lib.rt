@@ -1,6 +1,7 @@
 // Lines of text: where they end in the input, the words of a line, and the numbers and bytes that they are. A line is read where it stands,
 // with the newline that ends it, so that a walk along it stops there by itself. This crate may not know what a line means, nor any
 // controller.
+pub mod hex;
 pub mod lines;
 pub mod numbers;
 

@@ -1,12 +1,9 @@
-// The numbers and the bytes that stand in a line, in decimal and in hex.
-ghost use Prim.Native.Nat.{_*_, _-_, _≤_};
+// The decimal numbers that stand in a line.
 use crate::Text;
 use crate::Word;
 use crate::after;
 use crate::byte_at;
-
-// As many bytes as a line can hold in hex.
-pub type Bytes = [u8; 2048];
+use crate::hex;
 
 // A decimal number with its sign, or none.
 pub enum Number {
@@ -22,12 +19,6 @@ pub struct Digits {
     pub at: usize,
 }
 
-// Hex digits: what they come to, and the place past them.
-pub struct HexDigits {
-    pub value: u32,
-    pub at: usize,
-}
-
 // A number that is to fit: whether it does, and the number.
 pub struct Fit {
     pub good: bool,
@@ -37,24 +28,6 @@ pub struct Fit {
 pub struct SignedFit {
     pub good: bool,
     pub value: i16,
-}
-
-// Bytes in hex: how many, and the place past them; or half of one.
-pub enum Hex {
-    Bytes(usize, usize),
-    Not,
-}
-
-// The value of a digit, or 16 where it is none. What stands before '0' or 'a' wraps to a number past them; a capital is 32 before its
-// small letter, and no other character becomes one of the six by that bit.
-fn digit(b: u8) -> u32 {
-    let c = b as u32;
-    let d = std::num::wrapping_sub_u32(c, 48);
-    if d < 10 {
-        return d;
-    }
-    let l = std::num::wrapping_sub_u32(c | 32, 97);
-    if l < 6 { l + 10 } else { 16 }
 }
 
 impl Digits {
@@ -82,7 +55,7 @@ pub fn read_digits(text: &Text, from: usize) -> Digits {
     };
     let mut turns = 4096u64;
     while 0 < turns {
-        let x = digit(byte_at(text, d.at));
+        let x = hex::digit(byte_at(text, d.at));
         if 10 <= x {
             break;
         }
@@ -90,32 +63,6 @@ pub fn read_digits(text: &Text, from: usize) -> Digits {
         turns -= 1;
     }
     d
-}
-
-// The eighth place past one, up to the end of the text.
-fn eighth(from: usize) -> usize
-    ensures { λ r. ⌜ r ≤ 65536 ⌝ }
-{
-    if from < 65528 { from + 8 } else { 65536 }
-}
-
-// The hex digits from a place on, up to eight.
-pub fn read_hex_digits(text: &Text, from: usize) -> HexDigits {
-    let stop = eighth(from);
-    let mut value = 0u32;
-    let mut at = from;
-    while at < stop {
-        let x = digit(text[at]);
-        if 16 <= x {
-            break;
-        }
-        value = value << 4 | x;
-        at += 1;
-    }
-    HexDigits {
-        value: value,
-        at: at,
-    }
 }
 
 // The word as a decimal number with a sign or none.
@@ -189,33 +136,4 @@ fn negative(x: u64) -> i16 {
     }
     let y = x as i16;
     0 - y
-}
-
-// How many pairs of characters are read from a place on: no more than the text holds, nor than the longest line.
-fn pairs(from: usize) -> usize
-    ensures { λ r. ⌜ (r ≤ 2048) × (2 * r ≤ 65536 - from) ⌝ }
-{
-    if from <= 61440 {
-        return 2048;
-    }
-    if from <= 65536 { (65536 - from) / 2 } else { 0 }
-}
-
-// The bytes in hex from a place on, as far as they go.
-pub fn read_hex(text: &Text, from: usize, out: &mut Bytes) -> Hex {
-    let most = pairs(from);
-    let mut n = 0;
-    while n < most {
-        let a = digit(text[from + 2 * n]);
-        if 16 <= a {
-            break;
-        }
-        let b = digit(text[from + 2 * n + 1]);
-        if 16 <= b {
-            return Hex::Not;
-        }
-        out[n] = (a * 16 + b) as u8;
-        n += 1;
-    }
-    Hex::Bytes(n, from + 2 * n)
 }

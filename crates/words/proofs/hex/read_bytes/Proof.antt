@@ -1,8 +1,8 @@
--- `words::numbers::read_hex` is safe and ends: the pairs that are left fall, and are no more than the text and the array hold. Assumes nothing.
+-- `words::hex::read_bytes` is safe and ends: the pairs that are left fall, and are no more than the text and the array hold. Assumes nothing.
 use borrow.Author.Needs.{needs}
 use Prim.Native.Nat.{_*_, _-_, _≤_}
-use Rattle.words.proofs.numbers.read_hex.Statement.{statement}
-use Rattle.words.proofs.numbers.read_hex.Tie as tie
+use Rattle.words.proofs.hex.read_bytes.Statement.{statement}
+use Rattle.words.proofs.hex.read_bytes.Tie as tie
 
 abbrev Inv-loop : tie.InvT-loop
 Inv-loop text from out₀ most n₀ out n = (n ≤ most) × ((most ≤ 2048) × (2 * most ≤ 65536 - from))
@@ -76,8 +76,8 @@ add-t22 c = search needs
 returns-2 : tie.Need-returns-2 Inv-loop μ-loop
 returns-2 c = search needs
 
-pub read-hex-spec : {M : Type 1} → statement M
-read-hex-spec =
+pub read-bytes-spec : {M : Type 1} → statement M
+read-bytes-spec =
     tie.close
     (tie.spec
     Inv-loop

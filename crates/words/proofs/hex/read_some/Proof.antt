@@ -1,8 +1,8 @@
--- `words::numbers::read_hex_digits` is safe and ends: the places that are left fall. Assumes nothing.
+-- `words::hex::read_some` is safe and ends: the places that are left fall. Assumes nothing.
 use borrow.Author.Needs.{needs}
 use Prim.Native.Nat.{_≤_, _-_}
-use Rattle.words.proofs.numbers.read_hex_digits.Statement.{statement}
-use Rattle.words.proofs.numbers.read_hex_digits.Tie as tie
+use Rattle.words.proofs.hex.read_some.Statement.{statement}
+use Rattle.words.proofs.hex.read_some.Tie as tie
 
 abbrev Inv-loop : tie.InvT-loop
 Inv-loop text from stop value₀ at₀ value at = stop ≤ 65536
@@ -37,8 +37,8 @@ returns c = search needs
 returns-2 : tie.Need-returns-2 Inv-loop μ-loop
 returns-2 c = search needs
 
-pub read-hex-digits-spec : {M : Type 1} → statement M
-read-hex-digits-spec =
+pub read-some-spec : {M : Type 1} → statement M
+read-some-spec =
     tie.close
     (tie.spec
     Inv-loop

@@ -1,13 +1,16 @@
--- `calls::holder::Holder::ticks` is safe and ends: the ticks that are left fall. Assumes nothing.
+-- `holders::Holder::ticks` is safe and ends: the ticks that are left fall. Assumes nothing.
 use borrow.Author.Needs.{needs}
-use Rattle.calls.proofs.holder.Holder.ticks.Statement.{statement}
-use Rattle.calls.proofs.holder.Holder.ticks.Tie as tie
+use Rattle.holders.proofs.Holder.ticks.Statement.{statement}
+use Rattle.holders.proofs.Holder.ticks.Tie as tie
 
 abbrev Inv-loop : tie.InvT-loop
 Inv-loop n l v t buf₀ o₀ h₀ left₀ buf o h left = Unit {0}
 
 abbrev μ-loop : tie.MeasureT-loop
 μ-loop n l v t buf₀ o₀ h₀ left₀ buf o h left = left
+
+absent-requires : tie.Need-absent-requires Inv-loop μ-loop
+absent-requires c κs = search needs
 
 loop-holds : tie.Need-loop-holds Inv-loop μ-loop
 loop-holds c = search needs
@@ -30,4 +33,4 @@ returns c = search needs
 pub ticks-spec : {M : Type 1} → statement M
 ticks-spec =
     tie.close
-    (tie.spec Inv-loop μ-loop loop-holds tick-requires sub-left loop-less loop-again returns)
+    (tie.spec Inv-loop μ-loop absent-requires loop-holds tick-requires sub-left loop-less loop-again returns)
