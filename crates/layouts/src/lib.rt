@@ -2,7 +2,7 @@
 // fields. This crate may not know when a frame is due.
 ghost use mathlib.Core.Path.{_≡_};
 ghost use Rattle.buffers.specs.Words.{high};
-ghost use Rattle.layouts.specs.Layouts.{markOf, byteOf, holdVoltage, rawRequest, eimOf, evmOf, ecpOf, ermOf, ecrFrame, ecrOf, ecsOf, esmOf, estFrame, edmOf, eemOf};
+ghost use Rattle.layouts.specs.Layouts.{markOf, holdVoltage, rawRequest, eimOf, evmOf, ecpOf, ermOf, ecrFrame, ecrOf, ecsOf, esmOf, estFrame, edmOf, eemOf};
 use cells::Cells;
 use cells::sent;
 use frames::Frame;

@@ -1,7 +1,7 @@
 -- A tick that does not look closer comes to the same for any cells that have the same number and the same highest voltage. Assumes nothing.
 use Prim.Native.Nat.{ℕ}
-use mathlib.Core.Path.{_≡_, refl, sym, _∙_, ap}
-use mathlib.Core.Bool.{Bool, true, false, cond, not, _||_, false≢true}
+use mathlib.Core.Path.{_≡_, refl, sym}
+use mathlib.Core.Bool.{Bool, true, false, not, _||_, false≢true}
 use mathlib.Core.List.{[], _∷_}
 use types.Run.{OneOf, miss}
 use denote.Enum.Declared.{tagOf}
@@ -13,21 +13,20 @@ use Rattle.cells.specs.declared.Cells.{Cells}
 use Rattle.cells.specs.Glance.{SameGlance}
 use Rattle.phases.specs.declared.Phase.{Phase}
 use Rattle.phases.specs.declared.Phase.the-variants.{Drive, Rest, Hold}
-use Rattle.phases.specs.declared.Cause.the-variants.{PackVoltage, Other}
 use Rattle.phases.specs.declared.Turned.{Turned}
 use Rattle.phases.specs.declared.Turned.the-variants as turned
 use Rattle.phases.specs.Phases.{turnedOf}
 use Rattle.states.specs.declared.State.{State}
 use Rattle.states.specs.declared.State.the-variants.{Idle, Offered, Unverified, Parameters, Ready, Charging, Stopping, Error}
 use Rattle.states.proofs.State.{the-type}
-use Rattle.turns.specs.declared.Turn.{Turn}
-use Rattle.turns.specs.declared.Turn.the-variants.{On, Enter}
-use Rattle.turns.specs.Turns.{cellFull, packFull, stopOf, phaseOn, phaseTurn, stopsOf, chargingOf, turnOf}
+use Rattle.turns.specs.declared.Turn.the-variants.{On}
+use Rattle.turns.specs.Turns.{cellFull, packFull, stopOf, phaseOn, chargingOf, turnOf}
 use Rattle.layouts.specs.Layouts.{holdVoltage, ecrOf}
 use Rattle.session.specs.declared.Session.{Session}
 use Rattle.session.specs.Frames.{isFifth, each5, chargingFrames, framesIn, framesOf}
 use Rattle.session.specs.Reads.{staysIn, goesOn, chargingCloser, closerIn, looksCloser}
 use Rattle.session.specs.Tick.{turnedBy, turnIn, tickOf, sentOf}
+use Rattle.session.proofs.GoesOn.{turnBy, turn-is}
 
 -- the states that have no line of their own in the code (`looks_closer`)
 pub others : (x : Settings) (r : Readings) (c : Cells) (count silence : ℕ) (st : State) → OneOf (0 ∷ 1 ∷ 2 ∷ 3 ∷ 4 ∷ 6 ∷ 7 ∷ []) (tagOf the-type st)
@@ -56,12 +55,6 @@ module _ (x : Settings) (r : Readings) (c d : Cells) (g : SameGlance c d) where
   unfolding cellFull
   same-full = rw (g .highest)
 
-  -- the turn of Charging, by its tests
-  turnBy : Cells → Bool → Bool → Bool → Bool → Turned → Turn
-  turnBy k late wanted above full t =
-      cond late (Enter Error)
-      (cond wanted (cond above (stopOf x r k Other) (cond full (stopOf x r k PackVoltage) (phaseOn x r k t))) (stopOf x r k Other))
-
   -- what the turn comes to, of either
   record Onward (silence : ℕ) (p : Phase) : Type 0 where
     next : Phase
@@ -69,9 +62,9 @@ module _ (x : Settings) (r : Readings) (c d : Cells) (g : SameGlance c d) where
     with-d : chargingOf x r d silence p ≡ On (Charging next)
 
   stays : (silence : ℕ) (p : Phase) (late wanted above full : Bool) (t : Turned)
-      → staysIn (turnBy c late wanted above full t) ≡ true
-      → chargingOf x r c silence p ≡ turnBy c late wanted above full t
-      → chargingOf x r d silence p ≡ turnBy d late wanted above full t
+      → staysIn (turnBy x r c late wanted above full t) ≡ true
+      → chargingOf x r c silence p ≡ turnBy x r c late wanted above full t
+      → chargingOf x r d silence p ≡ turnBy x r d late wanted above full t
       → Onward silence p
   unfolding staysIn stopOf phaseOn turnBy
   stays silence p true wanted above full t h e f = absurd (false≢true h)
@@ -82,9 +75,12 @@ module _ (x : Settings) (r : Readings) (c d : Cells) (g : SameGlance c d) where
   stays silence p false true false false (turned.Stop cause) h e f = absurd (false≢true h)
 
   onward : (silence : ℕ) (p : Phase) → goesOn x r c silence p ≡ true → Onward silence p
-  unfolding goesOn chargingOf stopsOf phaseTurn turnBy
+  unfolding goesOn
   onward silence p h =
-      stays silence p (leb 200 silence) (wantedOf r) (aboveOf (r .current) (x .current)) (packFull x r) (turnedOf p (cellFull x c)) h refl (rw same-full)
+      stays silence p (leb 200 silence) (wantedOf r) (aboveOf (r .current) (x .current)) (packFull x r) (turnedOf p (cellFull x c))
+      (rw (turn-is x r c silence p) at h)
+      (turn-is x r c silence p)
+      (rw same-full (turn-is x r d silence p))
 
   -- ECR has of the cells their number alone
   same-ecr : (station : ℕ) (p : Phase) → ecrOf x station c p ≡ ecrOf x station d p

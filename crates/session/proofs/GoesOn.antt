@@ -15,6 +15,7 @@ use Rattle.phases.specs.declared.Turned.{Turned}
 use Rattle.phases.specs.declared.Turned.the-variants as turned
 use Rattle.phases.specs.Phases.{driveRules, holdRules, afterRest, turnedOf}
 use Rattle.states.specs.declared.State.the-variants.{Error}
+use Rattle.turns.specs.declared.Turn.{Turn}
 use Rattle.turns.specs.declared.Turn.the-variants.{Enter}
 use Rattle.turns.specs.Turns.{cellFull, packFull, stopOf, phaseOn, phaseTurn, stopsOf, chargingOf}
 use Rattle.session.specs.Reads.{isOn, phaseGoesOn, staysIn, goesOn}
@@ -72,12 +73,15 @@ unfolding afterRest
 next-goes request cycle cell = follows request cycle (ltb (request / 2) 60) (leb 6 cycle) cell
 
 module _ (x : Settings) (r : Readings) (c : Cells) where
+  -- the turn of Charging by its tests: silence, charge wanted, current above maximum, pack voltage at maximum, and what the phase comes to
+  unfoldable pub turnBy : Bool → Bool → Bool → Bool → Turned → Turn
+  turnBy late wanted above full t =
+      cond late (Enter Error)
+      (cond wanted (cond above (stopOf x r c Other) (cond full (stopOf x r c PackVoltage) (phaseOn x r c t))) (stopOf x r c Other))
+
   five : (late wanted above full : Bool) (t : Turned)
-      → (not late && (wanted && (not above && (not full && isOn t))))
-      ≡ staysIn
-      (cond late (Enter Error)
-      (cond wanted (cond above (stopOf x r c Other) (cond full (stopOf x r c PackVoltage) (phaseOn x r c t))) (stopOf x r c Other)))
-  unfolding isOn staysIn stopOf phaseOn
+      → (not late && (wanted && (not above && (not full && isOn t)))) ≡ staysIn (turnBy late wanted above full t)
+  unfolding isOn staysIn stopOf phaseOn turnBy
   five true wanted above full t = refl
   five false false above full t = refl
   five false true true full t = refl
@@ -85,12 +89,17 @@ module _ (x : Settings) (r : Readings) (c : Cells) where
   five false true false false (turned.On p) = refl
   five false true false false (turned.Stop cause) = refl
 
-  -- silence under 200, charge wanted, current not above maximum, pack voltage below maximum, and the phase goes on
+  pub turn-is : (silence : ℕ) (p : Phase)
+      → chargingOf x r c silence p
+      ≡ turnBy (leb 200 silence) (wantedOf r) (aboveOf (r .current) (x .current)) (packFull x r) (turnedOf p (cellFull x c))
+  unfolding chargingOf stopsOf phaseTurn turnBy
+  turn-is silence p = refl
+
   pub five-tests : (silence : ℕ) (p : Phase)
       → (ltb silence 200
       && (wantedOf r && (not (aboveOf (r .current) (x .current)) && (not (packFull x r) && phaseGoesOn p (cellFull x c)))))
       ≡ goesOn x r c silence p
-  unfolding goesOn chargingOf stopsOf phaseTurn phaseGoesOn
+  unfolding goesOn phaseGoesOn
   five-tests silence p =
-      rw (before silence 200)
+      rw (before silence 200, turn-is silence p)
       (five (leb 200 silence) (wantedOf r) (aboveOf (r .current) (x .current)) (packFull x r) (turnedOf p (cellFull x c)))
