@@ -2,7 +2,7 @@
 // fields. This crate may not know when a frame is due.
 ghost use mathlib.Core.Path.{_≡_};
 ghost use Rattle.buffers.specs.Words.{high};
-ghost use Rattle.layouts.specs.Layouts.{markOf, byteOf, holdVoltage, rawRequest, eimOf, evmOf, ecpOf, ermOf, ecrFrame, ecrOf, ecsOf, esmOf, estFrame, edmOf, eemOf};
+ghost use Rattle.layouts.specs.Layouts.{markOf, holdVoltage, rawRequest, eimOf, evmOf, ecpOf, ermOf, ecrFrame, ecrOf, ecsOf, esmOf, estFrame, edmOf, eemOf};
 use cells::Cells;
 use cells::sent;
 use frames::Frame;
@@ -33,7 +33,7 @@ pub fn eim(x: Settings, station: u8, on: bool) -> Frame
     let v = x.pack.0;
     let m = mark(on);
     Frame::new(
-        table::ROWS[table::EIM],
+        table::row_at(table::EIM),
         station,
         x.own,
         [(v % 256) as u8, (v / 256) as u8, m, 0, 0, 0, 0, 0],
@@ -48,7 +48,7 @@ pub fn evm(x: Settings, station: u8, r: Readings, verified: bool) -> Frame
     let v = r.pack.0;
     let m = mark(verified);
     Frame::new(
-        table::ROWS[table::EVM],
+        table::row_at(table::EVM),
         station,
         x.own,
         [
@@ -73,7 +73,7 @@ pub fn ecp(x: Settings, station: u8) -> Frame
     let c = x.pack.0;
     let d = x.temperature;
     Frame::new(
-        table::ROWS[table::ECP],
+        table::row_at(table::ECP),
         station,
         x.own,
         [
@@ -95,7 +95,7 @@ pub fn erm(x: Settings, station: u8, accepted: bool) -> Frame
 {
     let m = mark(accepted);
     Frame::new(
-        table::ROWS[table::ERM],
+        table::row_at(table::ERM),
         station,
         x.own,
         [m, 0, 0, 0, 0, 0, 0, 0],
@@ -127,7 +127,7 @@ fn ecr_frame(x: Settings, station: u8, v: u16, i: u16, mode: u8) -> Frame
     ensures { λ f. ⌜ f ≡ ecrFrame x station v i mode ⌝ }
 {
     Frame::new(
-        table::ROWS[table::ECR],
+        table::row_at(table::ECR),
         station,
         x.own,
         [
@@ -173,7 +173,7 @@ pub fn ecs(x: Settings, station: u8, r: Readings, c: Cells) -> Frame
     let h = c.volts.highest.value;
     let soc = r.soc;
     Frame::new(
-        table::ROWS[table::ECS],
+        table::row_at(table::ECS),
         station,
         x.own,
         [
@@ -199,7 +199,7 @@ pub fn esm(x: Settings, station: u8, c: Cells) -> Frame
     let e = c.heat.lowest.value;
     let f = sent::index_byte(c.heat.lowest.index);
     Frame::new(
-        table::ROWS[table::ESM],
+        table::row_at(table::ESM),
         station,
         x.own,
         [a, (b % 256) as u8, d, (e % 256) as u8, f, 0x01, 0, 0],
@@ -212,7 +212,7 @@ pub fn est(x: Settings, station: u8, first: u8, second: u8, acknowledged: bool) 
 {
     let m = mark(acknowledged);
     Frame::new(
-        table::ROWS[table::EST],
+        table::row_at(table::EST),
         station,
         x.own,
         [first, second, m, 0, 0, 0, 0, 0],
@@ -229,7 +229,7 @@ pub fn edm(x: Settings, station: u8, r: Readings, c: Cells) -> Frame
     let d = c.heat.lowest.value;
     let e = c.heat.highest.value;
     Frame::new(
-        table::ROWS[table::EDM],
+        table::row_at(table::EDM),
         station,
         x.own,
         [
@@ -250,7 +250,7 @@ pub fn eem(x: Settings, station: u8) -> Frame
     ensures { λ f. ⌜ f ≡ eemOf x station ⌝ }
 {
     Frame::new(
-        table::ROWS[table::EEM],
+        table::row_at(table::EEM),
         station,
         x.own,
         [0x10, 0x00, 0x00, 0, 0, 0, 0, 0],

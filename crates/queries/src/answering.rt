@@ -39,8 +39,8 @@ fn row_of(kind: Kind, group: u8) -> Row
     ensures { λ r. ⌜ r ≡ rowOf kind group ⌝ }
 {
     match kind {
-        Kind::Voltages => row_after(table::ROWS[table::VOLTAGES], group),
-        Kind::Temperatures => row_after(table::ROWS[table::TEMPERATURES], group),
+        Kind::Voltages => row_after(table::row_at(table::VOLTAGES), group),
+        Kind::Temperatures => row_after(table::row_at(table::TEMPERATURES), group),
     }
 }
 

@@ -1,12 +1,11 @@
 -- A tick that does not look closer comes to the same for any cells that have the same number and the same highest voltage. Assumes nothing.
 use Prim.Native.Nat.{ℕ}
-use mathlib.Core.Path.{_≡_, refl, sym, _∙_, ap}
-use mathlib.Core.Bool.{Bool, true, false, not, _&&_, _||_, false≢true}
+use mathlib.Core.Path.{_≡_, refl, sym}
+use mathlib.Core.Bool.{Bool, true, false, not, _||_, false≢true}
 use mathlib.Core.List.{[], _∷_}
 use types.Run.{OneOf, miss}
 use denote.Enum.Declared.{tagOf}
-use lib.Dec.{ltb, leb}
-use borrow.Author.Tests.{lt-leb, ltb-true}
+use lib.Dec.{leb}
 use Rattle.settings.specs.declared.Settings.{Settings}
 use Rattle.readings.specs.declared.Readings.{Readings}
 use Rattle.readings.specs.Readings.{wantedOf, aboveOf}
@@ -14,18 +13,20 @@ use Rattle.cells.specs.declared.Cells.{Cells}
 use Rattle.cells.specs.Glance.{SameGlance}
 use Rattle.phases.specs.declared.Phase.{Phase}
 use Rattle.phases.specs.declared.Phase.the-variants.{Drive, Rest, Hold}
+use Rattle.phases.specs.declared.Turned.{Turned}
 use Rattle.phases.specs.declared.Turned.the-variants as turned
-use Rattle.phases.specs.Phases.{driveRules, holdRules, turnedOf}
+use Rattle.phases.specs.Phases.{turnedOf}
 use Rattle.states.specs.declared.State.{State}
 use Rattle.states.specs.declared.State.the-variants.{Idle, Offered, Unverified, Parameters, Ready, Charging, Stopping, Error}
 use Rattle.states.proofs.State.{the-type}
 use Rattle.turns.specs.declared.Turn.the-variants.{On}
-use Rattle.turns.specs.Turns.{cellFull, packFull, phaseOn, phaseTurn, stopsOf, chargingOf, turnOf}
+use Rattle.turns.specs.Turns.{cellFull, packFull, stopOf, phaseOn, chargingOf, turnOf}
 use Rattle.layouts.specs.Layouts.{holdVoltage, ecrOf}
 use Rattle.session.specs.declared.Session.{Session}
 use Rattle.session.specs.Frames.{isFifth, each5, chargingFrames, framesIn, framesOf}
-use Rattle.session.specs.Reads.{phaseGoesOn, goesOn, chargingCloser, closerIn, looksCloser}
+use Rattle.session.specs.Reads.{staysIn, goesOn, chargingCloser, closerIn, looksCloser}
 use Rattle.session.specs.Tick.{turnedBy, turnIn, tickOf, sentOf}
+use Rattle.session.proofs.GoesOn.{turnBy, turn-is}
 
 -- the states that have no line of their own in the code (`looks_closer`)
 pub others : (x : Settings) (r : Readings) (c : Cells) (count silence : ℕ) (st : State) → OneOf (0 ∷ 1 ∷ 2 ∷ 3 ∷ 4 ∷ 6 ∷ 7 ∷ []) (tagOf the-type st)
@@ -49,55 +50,6 @@ right-true a true e = refl
 right-true true false e = sym e
 right-true false false e = sym e
 
-and-left : (a b : Bool) → (a && b) ≡ true → a ≡ true
-and-left true b e = refl
-and-left false b e = e
-
-and-right : (a b : Bool) → (a && b) ≡ true → b ≡ true
-and-right true b e = e
-and-right false b e = absurd (false≢true e)
-
-not-false : (a : Bool) → not a ≡ true → a ≡ false
-not-false true e = sym e
-not-false false e = refl
-
--- the phase that a phase goes on to
-record Goes (p : Phase) (cell : Bool) : Type 0 where
-  next : Phase
-  is : turnedOf p cell ≡ turned.On next
-
-in-time : (time most : ℕ) → ltb time most ≡ true → leb most time ≡ false
-in-time time most h = lt-leb most time (ltb-true time most h)
-
-goes : (p : Phase) (cell : Bool) → phaseGoesOn p cell ≡ true → Goes p cell
-unfolding phaseGoesOn turnedOf driveRules holdRules
-goes (Drive request cycle time) true h = record { next = Rest request cycle 0; is = rw (in-time time 18000 h) }
-goes (Drive request cycle time) false h = record { next = Drive request cycle time; is = rw (in-time time 18000 h) }
-goes (Rest request cycle time) cell h = record { next = Rest request cycle time; is = rw (in-time time 6000 h) }
-goes (Hold time) true h = absurd (false≢true (and-right (ltb time 18000) false h))
-goes (Hold time) false h = record { next = Hold time; is = rw (in-time time 18000 (and-left (ltb time 18000) true h)) }
-
--- the five tests of `goesOn`
-module _ (a b d e f : Bool) (h : (a && (b && (not d && (not e && f)))) ≡ true) where
-  all-five : (a ≡ true) × (b ≡ true) × (d ≡ false) × (e ≡ false) × (f ≡ true)
-  all-five =
-      let g = and-right a (b && (not d && (not e && f))) h in
-      let i = and-right b (not d && (not e && f)) g in
-      let j = and-right (not d) (not e && f) i in (
-        and-left a (b && (not d && (not e && f))) h,
-        and-left b (not d && (not e && f)) g,
-        not-false d (and-left (not d) (not e && f) i),
-        not-false e (and-left (not e) f j),
-        and-right (not e) f j,
-      )
-
--- where no other stop applies, the turn is the phase's
-turn-left : (x : Settings) (r : Readings) (c : Cells) (silence : ℕ) (p q : Phase)
-    → leb 200 silence ≡ false → wantedOf r ≡ true → aboveOf (r .current) (x .current) ≡ false → packFull x r ≡ false
-    → turnedOf p (cellFull x c) ≡ turned.On q → chargingOf x r c silence p ≡ On (Charging q)
-unfolding chargingOf stopsOf phaseTurn phaseOn
-turn-left x r c silence p q s w a f e = rw (s, w, a, f, e)
-
 module _ (x : Settings) (r : Readings) (c d : Cells) (g : SameGlance c d) where
   same-full : cellFull x c ≡ cellFull x d
   unfolding cellFull
@@ -109,17 +61,26 @@ module _ (x : Settings) (r : Readings) (c d : Cells) (g : SameGlance c d) where
     with-c : chargingOf x r c silence p ≡ On (Charging next)
     with-d : chargingOf x r d silence p ≡ On (Charging next)
 
+  stays : (silence : ℕ) (p : Phase) (late wanted above full : Bool) (t : Turned)
+      → staysIn (turnBy x r c late wanted above full t) ≡ true
+      → chargingOf x r c silence p ≡ turnBy x r c late wanted above full t
+      → chargingOf x r d silence p ≡ turnBy x r d late wanted above full t
+      → Onward silence p
+  unfolding staysIn stopOf phaseOn turnBy
+  stays silence p true wanted above full t h e f = absurd (false≢true h)
+  stays silence p false false above full t h e f = absurd (false≢true h)
+  stays silence p false true true full t h e f = absurd (false≢true h)
+  stays silence p false true false true t h e f = absurd (false≢true h)
+  stays silence p false true false false (turned.On q) h e f = record { next = q; with-c = e; with-d = f }
+  stays silence p false true false false (turned.Stop cause) h e f = absurd (false≢true h)
+
   onward : (silence : ℕ) (p : Phase) → goesOn x r c silence p ≡ true → Onward silence p
   unfolding goesOn
   onward silence p h =
-      let t = all-five (ltb silence 200) (wantedOf r) (aboveOf (r .current) (x .current)) (packFull x r) (phaseGoesOn p (cellFull x c)) h in
-      let n = goes p (cellFull x c) (t .4) in
-      let s = in-time silence 200 (t .0) in
-      record {
-        next = n .next;
-        with-c = turn-left x r c silence p (n .next) s (t .1) (t .2) (t .3) (n .is);
-        with-d = turn-left x r d silence p (n .next) s (t .1) (t .2) (t .3) (ap (turnedOf p) (sym same-full) ∙ n .is);
-      }
+      stays silence p (leb 200 silence) (wantedOf r) (aboveOf (r .current) (x .current)) (packFull x r) (turnedOf p (cellFull x c))
+      (rw (turn-is x r c silence p) at h)
+      (turn-is x r c silence p)
+      (rw same-full (turn-is x r d silence p))
 
   -- ECR has of the cells their number alone
   same-ecr : (station : ℕ) (p : Phase) → ecrOf x station c p ≡ ecrOf x station d p

@@ -6,15 +6,18 @@ use mathlib.Core.Bool.{Bool, true, false, not, _&&_, _||_}
 use lib.Dec.{ltb}
 use Rattle.settings.specs.declared.Settings.{Settings}
 use Rattle.readings.specs.declared.Readings.{Readings}
-use Rattle.readings.specs.Readings.{wantedOf, aboveOf}
 use Rattle.cells.specs.declared.Cells.{Cells}
 use Rattle.phases.specs.declared.Phase.{Phase}
-use Rattle.phases.specs.declared.Phase.the-variants.{Drive, Rest, Hold}
+use Rattle.phases.specs.declared.Turned.{Turned}
+use Rattle.phases.specs.declared.Turned.the-variants as turned
+use Rattle.phases.specs.Phases.{turnedOf}
 use Rattle.states.specs.declared.Est.{Est}
 use Rattle.states.specs.declared.Est.the-variants.{Awaited, Fixed}
 use Rattle.states.specs.declared.State.{State}
 use Rattle.states.specs.declared.State.the-variants.{Idle, Offered, Unverified, Parameters, Ready, Charging, Stopping, Error}
-use Rattle.turns.specs.Turns.{cellFull, packFull}
+use Rattle.turns.specs.declared.Turn.{Turn}
+use Rattle.turns.specs.declared.Turn.the-variants.{On, Enter, Farewell, End}
+use Rattle.turns.specs.Turns.{chargingOf}
 use Rattle.session.specs.declared.Session.{Session}
 use Rattle.session.specs.Frames.{isFifth}
 
@@ -34,24 +37,31 @@ readsCells (Charging p) count = true
 readsCells (Stopping acknowledged est) count = stoppingReads count est
 readsCells Error count = false
 
--- A phase before its time limit goes on (Drive, at a full cell, as Rest); but a cell at or above maximum stops Hold
-unfoldable pub phaseGoesOn : Phase → Bool → Bool
-phaseGoesOn (Drive request cycle time) cell = ltb time 18000
-phaseGoesOn (Rest request cycle time) cell = ltb time 6000
-phaseGoesOn (Hold time) cell = ltb time 18000 && not cell
+-- what a tick makes of a phase is a phase, and not a stop
+unfoldable pub isOn : Turned → Bool
+isOn (turned.On p) = true
+isOn (turned.Stop cause) = false
 
--- Charging goes on: silence under 200, charge wanted, current not above maximum, pack voltage below maximum, and the phase goes on. (A Rest at
--- its end may go on too; where this says that it does not, more is worked out than is read.)
+-- a phase goes on, as itself or as the phase that follows it
+unfoldable pub phaseGoesOn : Phase → Bool → Bool
+phaseGoesOn p cell = isOn (turnedOf p cell)
+
+-- the turn enters no other state and does not end the session
+unfoldable pub staysIn : Turn → Bool
+staysIn (On st) = true
+staysIn (Enter st) = false
+staysIn Farewell = false
+staysIn End = false
+
+-- Charging goes on
 unfoldable pub goesOn : Settings → Readings → Cells → ℕ → Phase → Bool
-goesOn x r c silence p =
-    ltb silence 200
-    && (wantedOf r && (not (aboveOf (r .current) (x .current)) && (not (packFull x r) && phaseGoesOn p (cellFull x c))))
+goesOn x r c silence p = staysIn (chargingOf x r c silence p)
 
 -- The stops ask the highest voltage, and ECR has the number of cells. ECS and ESM, each 5, have more, and so has EDM, where Charging stops
 unfoldable pub chargingCloser : Settings → Readings → Cells → ℕ → ℕ → Phase → Bool
 chargingCloser x r c count silence p = isFifth count || not (goesOn x r c silence p)
 
--- the other states look closer where they look at all
+-- the other states are taken to look closer
 unfoldable pub closerIn : Settings → Readings → Cells → ℕ → ℕ → State → Bool
 closerIn x r c count silence Idle = true
 closerIn x r c count silence Offered = true

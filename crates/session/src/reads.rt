@@ -1,7 +1,8 @@
 // Whether a tick looks at the cells, and whether closer than at their number and the highest voltage, so that a caller need not work out
 // figures that nothing reads.
 ghost use mathlib.Core.Path.{_≡_};
-ghost use Rattle.session.specs.Reads.{stoppingReads, readsCells, phaseGoesOn, goesOn, chargingCloser, looksCloser};
+ghost use Rattle.phases.specs.Phases.{afterRest};
+ghost use Rattle.session.specs.Reads.{stoppingReads, readsCells, isOn, phaseGoesOn, goesOn, chargingCloser, looksCloser};
 use crate::Session;
 use crate::due;
 use cells::Cells;
@@ -20,6 +21,13 @@ fn stopping(count: u16, est: Est) -> bool
     }
 }
 
+// The phase that follows a Rest: a Drive goes on at a full cell too, as Rest; a Hold does not.
+fn next_goes_on(request: u16, cycle: u8, cell: bool) -> bool
+    ensures { λ r. ⌜ r ≡ isOn (afterRest request cycle cell) ⌝ }
+{
+    !((request / 2 < 60) | (6 <= cycle)) | !cell
+}
+
 fn phase_goes_on(p: Phase, cell: bool) -> bool
     ensures { λ r. ⌜ r ≡ phaseGoesOn p cell ⌝ }
 {
@@ -30,10 +38,16 @@ fn phase_goes_on(p: Phase, cell: bool) -> bool
             time,
         } => time < 18000,
         Phase::Rest {
-            request: _,
-            cycle: _,
+            request,
+            cycle,
             time,
-        } => time < 6000,
+        } => {
+            if time < 6000 {
+                true
+            } else {
+                next_goes_on(request, cycle, cell)
+            }
+        }
         Phase::Hold { time } => (time < 18000) & !cell,
     }
 }

@@ -1,55 +1,56 @@
 -- `layouts::ecp` meets its contract, byte by byte. Assumes nothing.
+use mathlib.Core.Path.{_∙_}
 use Rattle.layouts.specs.Layouts.{ecpOf}
 use borrow.Author.Needs.{needs}
 use Rattle.layouts.proofs.ecp.Statement.{statement}
 use Rattle.layouts.proofs.ecp.Tie as tie
 
-array-copy-out-new : tie.Need-array-copy-out-new
-array-copy-out-new c = search needs
+row-at-requires : tie.Need-row-at-requires
+row-at-requires c κs = search needs
 
-cast-t38 : tie.Need-cast-t38
-cast-t38 c = search needs
+cast-t9 : tie.Need-cast-t9
+cast-t9 c = search needs
 
-cast-t40 : tie.Need-cast-t40
-cast-t40 c = search needs
+cast-t11 : tie.Need-cast-t11
+cast-t11 c = search needs
 
-cast-t42 : tie.Need-cast-t42
-cast-t42 c = search needs
+cast-t13 : tie.Need-cast-t13
+cast-t13 c = search needs
 
-cast-t44 : tie.Need-cast-t44
-cast-t44 c = search needs
+cast-t15 : tie.Need-cast-t15
+cast-t15 c = search needs
 
-cast-t46 : tie.Need-cast-t46
-cast-t46 c = search needs
+cast-t17 : tie.Need-cast-t17
+cast-t17 c = search needs
 
-cast-t48 : tie.Need-cast-t48
-cast-t48 c = search needs
+cast-t19 : tie.Need-cast-t19
+cast-t19 c = search needs
 
-cast-t50 : tie.Need-cast-t50
-cast-t50 c = search needs
+cast-t21 : tie.Need-cast-t21
+cast-t21 c = search needs
 
-cast-t52 : tie.Need-cast-t52
-cast-t52 c = search needs
+cast-t23 : tie.Need-cast-t23
+cast-t23 c = search needs
 
 new-requires : tie.Need-new-requires
 new-requires c κs = search needs
 
 returns : tie.Need-returns
 unfolding ecpOf
-returns c = c .new .ensures
+returns c = c .new .ensures ∙ rw (c .before .row-at .ensures)
 
 pub ecp-spec : {M : Type 1} → statement M
 ecp-spec =
     tie.close
     (tie.spec
-    array-copy-out-new
-    cast-t38
-    cast-t40
-    cast-t42
-    cast-t44
-    cast-t46
-    cast-t48
-    cast-t50
-    cast-t52
+    row-at-requires
+    cast-t9
+    cast-t11
+    cast-t13
+    cast-t15
+    cast-t17
+    cast-t19
+    cast-t21
+    cast-t23
     new-requires
     returns)

@@ -8,23 +8,23 @@ use Rattle.layouts.proofs.ecs.Tie as tie
 raw-current-requires : tie.Need-raw-current-requires
 raw-current-requires c κs = search needs
 
-array-copy-out-new : tie.Need-array-copy-out-new
-array-copy-out-new c = search needs
+row-at-requires : tie.Need-row-at-requires
+row-at-requires c κs = search needs
 
-cast-t40 : tie.Need-cast-t40
-cast-t40 c = search needs
+cast-t11 : tie.Need-cast-t11
+cast-t11 c = search needs
 
 top-requires : tie.Need-top-requires
 top-requires c κs = search needs
 
-cast-t43 : tie.Need-cast-t43
-cast-t43 c = search needs
+cast-t14 : tie.Need-cast-t14
+cast-t14 c = search needs
 
 top-requires-2 : tie.Need-top-requires-2
 top-requires-2 c κs = search needs
 
-cast-t46 : tie.Need-cast-t46
-cast-t46 c = search needs
+cast-t17 : tie.Need-cast-t17
+cast-t17 c = search needs
 
 top-requires-3 : tie.Need-top-requires-3
 top-requires-3 c κs = search needs
@@ -34,19 +34,19 @@ new-requires c κs = search needs
 
 returns : tie.Need-returns
 unfolding ecsOf
-returns c = c .new .ensures ∙ rw (c .before .before .before .top .ensures, c .before .before .top2 .ensures, c .before .top3 .ensures, c .before .before .before .before .before .raw-current .ensures)
+returns c = c .new .ensures ∙ rw (c .before .before .before .before .row-at .ensures, c .before .before .before .top .ensures, c .before .before .top2 .ensures, c .before .top3 .ensures, c .before .before .before .before .before .raw-current .ensures)
 
 pub ecs-spec : {M : Type 1} → statement M
 ecs-spec =
     tie.close
     (tie.spec
     raw-current-requires
-    array-copy-out-new
-    cast-t40
+    row-at-requires
+    cast-t11
     top-requires
-    cast-t43
+    cast-t14
     top-requires-2
-    cast-t46
+    cast-t17
     top-requires-3
     new-requires
     returns)

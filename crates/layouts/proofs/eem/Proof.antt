@@ -1,18 +1,19 @@
 -- `layouts::eem` meets its contract, byte by byte. Assumes nothing.
+use mathlib.Core.Path.{_∙_}
 use Rattle.layouts.specs.Layouts.{eemOf}
 use borrow.Author.Needs.{needs}
 use Rattle.layouts.proofs.eem.Statement.{statement}
 use Rattle.layouts.proofs.eem.Tie as tie
 
-array-copy-out-new : tie.Need-array-copy-out-new
-array-copy-out-new c = search needs
+row-at-requires : tie.Need-row-at-requires
+row-at-requires c κs = search needs
 
 new-requires : tie.Need-new-requires
 new-requires c κs = search needs
 
 returns : tie.Need-returns
 unfolding eemOf
-returns c = c .new .ensures
+returns c = c .new .ensures ∙ rw (c .before .row-at .ensures)
 
 pub eem-spec : {M : Type 1} → statement M
-eem-spec = tie.close (tie.spec array-copy-out-new new-requires returns)
+eem-spec = tie.close (tie.spec row-at-requires new-requires returns)

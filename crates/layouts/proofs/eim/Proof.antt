@@ -8,22 +8,21 @@ use Rattle.layouts.proofs.eim.Tie as tie
 mark-requires : tie.Need-mark-requires
 mark-requires c κs = search needs
 
-array-copy-out-new : tie.Need-array-copy-out-new
-array-copy-out-new c = search needs
+row-at-requires : tie.Need-row-at-requires
+row-at-requires c κs = search needs
 
-cast-t37 : tie.Need-cast-t37
-cast-t37 c = search needs
+cast-t8 : tie.Need-cast-t8
+cast-t8 c = search needs
 
-cast-t39 : tie.Need-cast-t39
-cast-t39 c = search needs
+cast-t10 : tie.Need-cast-t10
+cast-t10 c = search needs
 
 new-requires : tie.Need-new-requires
 new-requires c κs = search needs
 
 returns : tie.Need-returns
 unfolding eimOf
-returns c = c .new .ensures ∙ rw (c .before .before .mark .ensures)
+returns c = c .new .ensures ∙ rw (c .before .row-at .ensures, c .before .before .mark .ensures)
 
 pub eim-spec : {M : Type 1} → statement M
-eim-spec =
-    tie.close (tie.spec mark-requires array-copy-out-new cast-t37 cast-t39 new-requires returns)
+eim-spec = tie.close (tie.spec mark-requires row-at-requires cast-t8 cast-t10 new-requires returns)

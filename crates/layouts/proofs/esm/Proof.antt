@@ -14,21 +14,21 @@ index-byte-requires-2 c κs = search needs
 index-byte-requires-3 : tie.Need-index-byte-requires-3
 index-byte-requires-3 c κs = search needs
 
-array-copy-out-new : tie.Need-array-copy-out-new
-array-copy-out-new c = search needs
+row-at-requires : tie.Need-row-at-requires
+row-at-requires c κs = search needs
 
-cast-t40 : tie.Need-cast-t40
-cast-t40 c = search needs
+cast-t11 : tie.Need-cast-t11
+cast-t11 c = search needs
 
-cast-t42 : tie.Need-cast-t42
-cast-t42 c = search needs
+cast-t13 : tie.Need-cast-t13
+cast-t13 c = search needs
 
 new-requires : tie.Need-new-requires
 new-requires c κs = search needs
 
 returns : tie.Need-returns
 unfolding esmOf
-returns c = c .new .ensures ∙ rw (c .before .before .before .before .index-byte .ensures, c .before .before .before .index-byte2 .ensures, c .before .before .index-byte3 .ensures)
+returns c = c .new .ensures ∙ rw (c .before .row-at .ensures, c .before .before .before .before .index-byte .ensures, c .before .before .before .index-byte2 .ensures, c .before .before .index-byte3 .ensures)
 
 pub esm-spec : {M : Type 1} → statement M
 esm-spec =
@@ -37,8 +37,8 @@ esm-spec =
     index-byte-requires
     index-byte-requires-2
     index-byte-requires-3
-    array-copy-out-new
-    cast-t40
-    cast-t42
+    row-at-requires
+    cast-t11
+    cast-t13
     new-requires
     returns)

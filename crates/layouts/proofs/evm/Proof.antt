@@ -8,37 +8,37 @@ use Rattle.layouts.proofs.evm.Tie as tie
 mark-requires : tie.Need-mark-requires
 mark-requires c κs = search needs
 
-array-copy-out-new : tie.Need-array-copy-out-new
-array-copy-out-new c = search needs
+row-at-requires : tie.Need-row-at-requires
+row-at-requires c κs = search needs
 
-cast-t39 : tie.Need-cast-t39
-cast-t39 c = search needs
+cast-t10 : tie.Need-cast-t10
+cast-t10 c = search needs
 
-cast-t41 : tie.Need-cast-t41
-cast-t41 c = search needs
+cast-t12 : tie.Need-cast-t12
+cast-t12 c = search needs
 
-cast-t43 : tie.Need-cast-t43
-cast-t43 c = search needs
+cast-t14 : tie.Need-cast-t14
+cast-t14 c = search needs
 
-cast-t45 : tie.Need-cast-t45
-cast-t45 c = search needs
+cast-t16 : tie.Need-cast-t16
+cast-t16 c = search needs
 
 new-requires : tie.Need-new-requires
 new-requires c κs = search needs
 
 returns : tie.Need-returns
 unfolding evmOf
-returns c = c .new .ensures ∙ rw (c .before .before .mark .ensures)
+returns c = c .new .ensures ∙ rw (c .before .row-at .ensures, c .before .before .mark .ensures)
 
 pub evm-spec : {M : Type 1} → statement M
 evm-spec =
     tie.close
     (tie.spec
     mark-requires
-    array-copy-out-new
-    cast-t39
-    cast-t41
-    cast-t43
-    cast-t45
+    row-at-requires
+    cast-t10
+    cast-t12
+    cast-t14
+    cast-t16
     new-requires
     returns)

@@ -19,7 +19,7 @@ temperatures-requires c κs =
     (omega (arith, f .same, f .some), omega (arith, f .same, f .most), temperatures-good v t (c .before .before .pre .1))
 
 returns : tie.Need-returns
-returns c = cc
+returns c = rw (c .before .voltages .ensures, c .temperatures .ensures)
 
 pub summarize-spec : {M : Type 1} → statement M
 summarize-spec = tie.close (tie.spec voltages-requires temperatures-requires returns)

@@ -1,7 +1,5 @@
-use Prim.Native.Nat.{_+_, _*_}
-use mathlib.Core.Path.{_≡_}
-use native.Mathlib.Omega.{arith}
 -- `cells::groups::temperature_group` meets its contract. Assumes nothing.
+use native.Mathlib.Nat.{add-zero}
 use borrow.Author.Needs.{needs}
 use Rattle.cells.proofs.groups.temperature_group.Statement.{statement}
 use Rattle.cells.proofs.groups.temperature_group.Tie as tie
@@ -56,9 +54,9 @@ temperature-at-requires-8 c κs = search needs
 
 returns : tie.Need-returns
 returns c =
-    let first = c .before .before .before .before .before .before .before .before .args .group * 8 in
-    let z : first + 0 ≡ first = omega arith in
-    cc
+    let e = c .before in
+    let d = e .before .before in
+    rw (d .before .before .before .before .temperature-at .ensures, d .before .before .before .temperature-at2 .ensures, d .before .before .temperature-at3 .ensures, d .before .temperature-at4 .ensures, d .temperature-at5 .ensures, e .before .temperature-at6 .ensures, e .temperature-at7 .ensures, c .temperature-at8 .ensures, add-zero)
 
 pub temperature-group-spec : {M : Type 1} → statement M
 temperature-group-spec =

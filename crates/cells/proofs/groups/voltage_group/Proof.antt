@@ -1,7 +1,5 @@
-use Prim.Native.Nat.{_+_, _*_}
-use mathlib.Core.Path.{_≡_}
-use native.Mathlib.Omega.{arith}
 -- `cells::groups::voltage_group` meets its contract. Assumes nothing.
+use native.Mathlib.Nat.{add-zero}
 use borrow.Author.Needs.{needs}
 use Rattle.cells.proofs.groups.voltage_group.Statement.{statement}
 use Rattle.cells.proofs.groups.voltage_group.Tie as tie
@@ -56,9 +54,8 @@ cast-t24 c = search needs
 
 returns : tie.Need-returns
 returns c =
-    let first = c .before .before .before .before .before .args .group * 4 in
-    let z : first + 0 ≡ first = omega arith in
-    cc
+    let e = c .before .before in
+    rw (e .before .voltage-at .ensures, e .voltage-at2 .ensures, c .before .voltage-at3 .ensures, c .voltage-at4 .ensures, add-zero)
 
 pub voltage-group-spec : {M : Type 1} → statement M
 voltage-group-spec =

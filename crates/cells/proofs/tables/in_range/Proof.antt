@@ -10,7 +10,7 @@ temperatures-ok-requires : tie.Need-temperatures-ok-requires
 temperatures-ok-requires c κs = search needs
 
 returns : tie.Need-returns
-returns c = cc
+returns c = rw (c .before .voltages-ok .ensures, c .temperatures-ok .ensures)
 
 pub in-range-spec : {M : Type 1} → statement M
 in-range-spec = tie.close (tie.spec voltages-ok-requires temperatures-ok-requires returns)

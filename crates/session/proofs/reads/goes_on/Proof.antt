@@ -1,5 +1,5 @@
 -- `session::reads::goes_on` meets its contract. Assumes nothing.
-use Rattle.session.specs.Reads.{goesOn}
+use Rattle.session.proofs.GoesOn.{five-tests}
 use borrow.Author.Needs.{needs}
 use Rattle.session.proofs.reads.goes_on.Statement.{statement}
 use Rattle.session.proofs.reads.goes_on.Tie as tie
@@ -20,14 +20,16 @@ phase-goes-on-requires : tie.Need-phase-goes-on-requires
 phase-goes-on-requires c κs = search needs
 
 returns : tie.Need-returns
-unfolding goesOn
-returns c = rw (
-  c .before .before .before .before .wanted .ensures,
-  c .before .before .before .current-above .ensures,
-  c .before .before .pack-full .ensures,
-  c .phase-goes-on .ensures,
-  c .before .cell-full .ensures,
-)
+returns c =
+    let a = c .before .before .before .before .before .args in
+    rw (
+      c .before .before .before .before .wanted .ensures,
+      c .before .before .before .current-above .ensures,
+      c .before .before .pack-full .ensures,
+      c .phase-goes-on .ensures,
+      c .before .cell-full .ensures,
+    )
+    (five-tests (a .x) (a .r) (a .c) (a .silence) (a .p))
 
 pub goes-on-spec : {M : Type 1} → statement M
 goes-on-spec =

@@ -27,7 +27,7 @@ good-stations-requires c κs = search needs
 
 returns : tie.Need-returns
 unfolding inRange
-returns c = cc
+returns c = rw (c .before .before .before .before .before .within .ensures, c .before .before .before .before .within2 .ensures, c .before .before .before .within3 .ensures, c .before .before .within4 .ensures, c .before .within5 .ensures, c .good-stations .ensures)
 
 pub in-range-spec : {M : Type 1} → statement M
 in-range-spec =

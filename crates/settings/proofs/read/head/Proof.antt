@@ -15,7 +15,7 @@ word-at-requires c κs = search needs
 
 returns : tie.Need-returns
 unfolding headAt
-returns c = cc
+returns c = rw (c .before .byte-at .ensures, c .word-at .ensures)
 
 pub head-spec : {M : Type 1} → statement M
 head-spec = tie.close (tie.spec byte-at-requires add-word-at word-at-requires returns)

@@ -36,7 +36,7 @@ versions-requires c κs = search needs
 
 returns : tie.Need-returns
 unfolding settingsOf
-returns c = cc
+returns c = rw (c .versions .ensures, c .before .stations .ensures, c .before .before .word-at5 .ensures, c .before .before .before .word-at4 .ensures, c .before .before .before .before .word-at3 .ensures, c .before .before .before .before .before .word-at2 .ensures, c .before .before .before .before .before .before .byte-at .ensures, c .before .before .before .before .before .before .before .word-at .ensures)
 
 pub values-spec : {M : Type 1} → statement M
 values-spec =
