@@ -1,4 +1,5 @@
 -- A received frame: 01, "Numbers returned", 3 to 13. Checks run in numeric order; a refusal alters nothing but as noted at 11.
+-- The tests 3 to 6 and 9 stand in `refusals`, `specs/Frame.antt`.
 use Prim.Native.Nat.{ℕ}
 use mathlib.Core.Path.{_≡_}
 use mathlib.Core.Bool.{Bool, cond}
@@ -33,7 +34,7 @@ use Rattle.controller.specs.declared.Change.the-variants as change
 abbrev pub refused : ℕ → Controller → Answer
 refused n c = record { number = n; controller = c }
 
--- 9: by the state, the session's station and the list
+-- 9: Idle: source not in the list; else: not the session's station
 unfoldable pub mayCharge : Controller → ℕ → Bool
 mayCharge c source = maySpeak (c .session .state) (c .session .station) (c .settings .stations) source
 

@@ -1,5 +1,5 @@
 -- A tick: 01, "Numbers returned", 14 to 16, and "Broadcasts and cell answers" for the order of its frames. A refused tick changes neither the
--- controller nor one byte.
+-- controller nor one byte. The tests 14 to 16 stand in `refusals`, `specs/Tick.antt`.
 use Prim.Native.Nat.{ℕ, _*_}
 use mathlib.Core.Path.{_≡_}
 use mathlib.Core.Bool.{Bool, cond}

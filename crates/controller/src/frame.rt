@@ -56,6 +56,7 @@ impl Controller {
         }
     }
 
+    // 9, then the content.
     fn charge_to(self, source: u8, k: Charge, bytes: &[u8]) -> Change
         ensures { λ r. ⌜ answerOf self r ≡ chargeTo self source k (now (bytes .entry)) ⌝ }
     {
