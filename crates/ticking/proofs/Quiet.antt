@@ -6,6 +6,8 @@ use mathlib.Core.Bool.{Bool, true, false, cond}
 use mathlib.Core.List.{List, []}
 use lib.IntN.{ℤ}
 use Rattle.frames.specs.declared.Frame.{Frame}
+use Rattle.frames.specs.Sent.{Sent}
+use Rattle.frames.proofs.Laws.{sent-then, sent-eq}
 use Rattle.settings.specs.declared.Settings.{Settings}
 use Rattle.readings.specs.declared.Readings.{Readings}
 use Rattle.cells.specs.declared.Cells.{Cells}
@@ -20,6 +22,7 @@ use Rattle.session.proofs.Glance.{glanced}
 use Rattle.broadcasts.specs.declared.beat.Beat.{Beat}
 use Rattle.broadcasts.specs.Beat.{dueAt}
 use Rattle.broadcasts.specs.Sendings.{broadcastAt}
+use Rattle.ticking.specs.First.{firstFrames}
 use Rattle.ticking.specs.Needed.{lookedOf, neededOf}
 
 module _ {A : Type 0} (f : Cells → A) (all glance none : Cells) where
@@ -60,3 +63,10 @@ module _ (x : Settings) (s : Session) (beat : Beat) (r : Readings) (v : List ℕ
 
   pub quiet-broadcast : sendings (neededOf x s beat r v t) ≡ sendings (cellsOf v t)
   quiet-broadcast = undue (dueAt (beat .tick)) refl (cond reads (lookedOf x s r v t) (cellsOf [] []))
+
+  -- so what goes out first is as with all of the cells
+  pub quiet-first : {old mid new : List ℕ} {k next : ℕ} {fs : List Frame} {c : Cells} → c ≡ neededOf x s beat r v t
+      → fs ≡ sentOf x r c s → Sent 3 old mid 0 k fs → Sent 5 mid new k next (sendings c)
+      → Sent 8 old new 0 next (firstFrames x s beat r v t)
+  unfolding firstFrames
+  quiet-first e h a b = sent-eq (sent-then a b) (rw (h, e, quiet-sent, quiet-broadcast))

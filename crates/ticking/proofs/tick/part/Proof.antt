@@ -1,9 +1,7 @@
 -- `ticking::tick::part` meets its contract: the charge frames, then the broadcasts, of the cells only what makes a difference.
 -- Assumes nothing.
-use Rattle.frames.proofs.Laws.{sent-then, sent-eq}
 use Rattle.cells.proofs.Bounds.{cells-bounded}
-use Rattle.ticking.specs.First.{firstFrames}
-use Rattle.ticking.proofs.Quiet.{quiet-tick, quiet-sent, quiet-broadcast}
+use Rattle.ticking.proofs.Quiet.{quiet-tick, quiet-first}
 use borrow.Author.Needs.{needs}
 use Rattle.ticking.proofs.tick.part.Statement.{statement}
 use Rattle.ticking.proofs.tick.part.Tie as tie
@@ -24,13 +22,13 @@ same-length : tie.Need-same-length
 same-length c = search needs
 
 returns : tie.Need-returns
-unfolding firstFrames
 returns c = let a = c .before .before .before .before .before .before .before .before .before .before .before .before .before .args in
     let e = c .before .before .before .before .before .before .before .before .before .before .needed .ensures in
     let k = c .before .before .before .before .before .before .before .before .before .tick .ensures in (
       rw (k .0, e) (quiet-tick (a .x) (a .s) (a .beat) (a .r) (a .v .now) (a .t .now)),
-      sent-eq (sent-then (c .before .before .before .before .before .before .charge .ensures) (c .before .before .broadcast .ensures))
-          (rw (k .1, e, quiet-sent (a .x) (a .s) (a .beat) (a .r) (a .v .now) (a .t .now), quiet-broadcast (a .x) (a .s) (a .beat) (a .r) (a .v .now) (a .t .now))),
+      quiet-first (a .x) (a .s) (a .beat) (a .r) (a .v .now) (a .t .now) e (k .1)
+          (c .before .before .before .before .before .before .charge .ensures)
+          (c .before .before .broadcast .ensures),
     )
 
 pub part-spec : {M : Type 1} → statement M
