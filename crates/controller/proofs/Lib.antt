@@ -1,3 +1,1 @@
-pub mod Listed
-pub mod Quiet
 pub mod Ticks

@@ -1,11 +1,11 @@
 -- A received frame: 01, "Numbers returned", 3 to 13. Checks run in numeric order; a refusal alters nothing but as noted at 11.
+-- The tests 3 to 6 and 9 stand in `refusals`, `specs/Frame.antt`.
 use Prim.Native.Nat.{ℕ}
 use mathlib.Core.Path.{_≡_}
-use mathlib.Core.Bool.{Bool, true, false, not, cond, _||_}
+use mathlib.Core.Bool.{Bool, cond}
 use mathlib.Core.List.{List}
-use lib.Dec.{eqb, leb, ltb}
+use lib.Dec.{ltb}
 use lib.ListN.{length}
-use Rattle.messages.specs.declared.identifier.Identifier.{Identifier}
 use Rattle.messages.specs.declared.received.Charge.{Charge}
 use Rattle.messages.specs.declared.received.Query.{Query}
 use Rattle.messages.specs.declared.received.Query.the-variants.{Acv, Act}
@@ -15,19 +15,16 @@ use Rattle.messages.specs.declared.received.Recognized.{Recognized}
 use Rattle.messages.specs.declared.received.Recognized.the-variants as recognized
 use Rattle.messages.specs.Identifier.{partsOf}
 use Rattle.messages.specs.Received.{rowOf, recognizedOf}
-use Rattle.settings.specs.declared.Stations.{Stations}
-use Rattle.settings.specs.Range.{stationList, lacks}
 use Rattle.charge_messages.specs.declared.Content.{Content}
 use Rattle.charge_messages.specs.declared.Content.the-variants as content
 use Rattle.charge_messages.specs.Content.{contentOf}
-use Rattle.states.specs.declared.State.{State}
-use Rattle.states.specs.declared.State.the-variants.{Idle, Offered, Unverified, Parameters, Ready, Charging, Stopping, Error}
 use Rattle.session.specs.declared.Taken.{Taken}
 use Rattle.session.specs.Message.{messageOf}
 use Rattle.queries.specs.declared.Kind.{Kind}
 use Rattle.queries.specs.declared.Kind.the-variants.{Voltages, Temperatures}
 use Rattle.queries.specs.declared.Asked.{Asked}
 use Rattle.queries.specs.Asking.{askedOf}
+use Rattle.refusals.specs.Frame.{notCan, flagsSet, notForUs, badSource, maySpeak}
 use Rattle.controller.specs.declared.Controller.{Controller}
 use Rattle.controller.specs.declared.Answer.{Answer}
 use Rattle.controller.specs.declared.Change.{Change}
@@ -37,39 +34,9 @@ use Rattle.controller.specs.declared.Change.the-variants as change
 abbrev pub refused : ℕ → Controller → Answer
 refused n c = record { number = n; controller = c }
 
--- 3: identifier 2^29 or more, or over 8 bytes
-unfoldable pub notCan : ℕ → List ℕ → Bool
-notCan id s = leb 0x2000_0000 id || ltb 8 (length s)
-
--- 4: reserved or data page set
-unfoldable pub flagsSet : Identifier → Bool
-flagsSet p = eqb (p .reserved) 1 || eqb (p .page) 1
-
--- 5: PF 240 up, or target not our address
-unfoldable pub notForUs : ℕ → Identifier → Bool
-notForUs own p = leb 240 (p .pf) || not (eqb (p .ps) own)
-
--- 6: source is ours, 254 or 255
-unfoldable pub badSource : ℕ → Identifier → Bool
-badSource own p = eqb (p .source) own || (eqb (p .source) 254 || eqb (p .source) 255)
-
 -- 9: Idle: source not in the list; else: not the session's station
-unfoldable pub isIdle : State → Bool
-isIdle Idle = true
-isIdle Offered = false
-isIdle Unverified = false
-isIdle Parameters = false
-isIdle (Ready accepted most) = false
-isIdle (Charging p) = false
-isIdle (Stopping acknowledged est) = false
-isIdle Error = false
-
-unfoldable pub listed : ℕ → Stations → Bool
-listed source s = not (lacks source (stationList s))
-
 unfoldable pub mayCharge : Controller → ℕ → Bool
-mayCharge c source =
-    cond (isIdle (c .session .state)) (listed source (c .settings .stations)) (eqb source (c .session .station))
+mayCharge c source = maySpeak (c .session .state) (c .session .station) (c .settings .stations) source
 
 -- the session moved on, and nothing else of the controller
 unfoldable pub withSession : Controller → Taken → Answer

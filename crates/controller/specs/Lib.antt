@@ -1,4 +1,3 @@
 pub mod Start
 pub mod Frame
 pub mod Tick
-pub mod Needed

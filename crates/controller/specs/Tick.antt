@@ -1,31 +1,24 @@
 -- A tick: 01, "Numbers returned", 14 to 16, and "Broadcasts and cell answers" for the order of its frames. A refused tick changes neither the
--- controller nor one byte.
+-- controller nor one byte. The tests 14 to 16 stand in `refusals`, `specs/Tick.antt`.
 use Prim.Native.Nat.{ℕ, _*_}
 use mathlib.Core.Path.{_≡_}
-use mathlib.Core.Bool.{Bool, cond, _&&_}
+use mathlib.Core.Bool.{Bool, cond}
 use mathlib.Core.List.{List, _++_}
-use lib.Dec.{eqb, ltb}
+use lib.Dec.{eqb}
 use lib.IntN.{ℤ}
 use lib.ListN.{length, drop}
 use Rattle.frames.specs.declared.Frame.{Frame}
 use Rattle.frames.specs.Frame.{recordsOf}
 use Rattle.readings.specs.declared.Readings.{Readings}
-use Rattle.readings.specs.Readings.{inRange}
-use Rattle.cells.specs.Tables.{tablesFit, cellsInRange}
 use Rattle.cells.specs.Summaries.{cellsOf}
 use Rattle.session.specs.Tick.{tickOf, sentOf}
 use Rattle.broadcasts.specs.Beat.{nextBeat}
 use Rattle.broadcasts.specs.Sendings.{broadcastAt}
 use Rattle.queries.specs.Waiting.{waiting, queriesOf}
 use Rattle.queries.specs.Answering.{framesOf, laterOf}
+use Rattle.refusals.specs.Tick.{tickNumber}
 use Rattle.controller.specs.declared.Controller.{Controller}
 use Rattle.controller.specs.declared.Ticked.{Ticked}
-
--- 14: tables differ in length, or hold none or over 255; 15: a reading or cell outside its range; 16: buffer under 117 bytes (nine
--- frames); 0 is taken
-unfoldable pub tickNumber : Readings → List ℕ → List ℤ → ℕ → ℕ
-tickNumber r v t room =
-    cond (tablesFit v t) (cond (inRange r && cellsInRange v t) (cond (ltb room 117) 16 0) 15) 14
 
 module _ (c : Controller) (r : Readings) (v : List ℕ) (t : List ℤ) where
   -- charge frames, by the session

@@ -1,6 +1,6 @@
 // A received frame (01, "Numbers returned", 3 to 13, in numeric order).
 ghost use mathlib.Core.Path.{_≡_};
-ghost use Rattle.controller.specs.Frame.{isIdle, listed, mayCharge, refused, changeNumber, afterChange, answerOf, contentTaken, chargeTo, kindOf, queryTo, messageTo, knownTo, notCan, flagsSet, notForUs, badSource, FrameIs};
+ghost use Rattle.controller.specs.Frame.{refused, changeNumber, afterChange, answerOf, contentTaken, chargeTo, kindOf, queryTo, messageTo, knownTo, FrameIs};
 use crate::Answer;
 use crate::Change;
 use crate::Controller;
@@ -12,27 +12,7 @@ use messages::received::Message;
 use messages::received::Query;
 use messages::received::Recognized;
 use queries::Kind;
-use settings::Stations;
-use states::State;
-
-fn is_idle(state: State) -> bool
-    ensures { λ r. ⌜ r ≡ isIdle state ⌝ }
-{
-    match state {
-        State::Idle => true,
-        _ => false,
-    }
-}
-
-// A station of the list.
-fn is_listed(source: u8, s: Stations) -> bool
-    ensures { λ r. ⌜ r ≡ listed source s ⌝ }
-{
-    let n = s.count;
-    ((0 < n) & (source == s.first))
-        | (((1 < n) & (source == s.second))
-            | (((2 < n) & (source == s.third)) | ((3 < n) & (source == s.fourth))))
-}
+use refusals::frame;
 
 fn kind_of(q: Query) -> Kind
     ensures { λ r. ⌜ r ≡ kindOf q ⌝ }
@@ -41,34 +21,6 @@ fn kind_of(q: Query) -> Kind
         Query::Acv => Kind::Voltages,
         Query::Act => Kind::Temperatures,
     }
-}
-
-// 3: no identifier or length of CAN.
-fn not_can(id: u32, bytes: &[u8]) -> bool
-    ensures { λ r. ⌜ r ≡ notCan id (now (bytes .entry)) ⌝ }
-{
-    (0x2000_0000 <= id) | (8 < bytes.len())
-}
-
-// 4: reserved or data page set.
-fn flags_set(p: Identifier) -> bool
-    ensures { λ r. ⌜ r ≡ flagsSet p ⌝ }
-{
-    (p.reserved == 1) | (p.page == 1)
-}
-
-// 5: a broadcast, or for another target.
-fn not_for_us(own: u8, p: Identifier) -> bool
-    ensures { λ r. ⌜ r ≡ notForUs own p ⌝ }
-{
-    (240 <= p.pf) | (p.ps != own)
-}
-
-// 6: a source that no other node may have.
-fn bad_source(own: u8, p: Identifier) -> bool
-    ensures { λ r. ⌜ r ≡ badSource own p ⌝ }
-{
-    (p.source == own) | ((p.source == 254) | (p.source == 255))
 }
 
 impl Change {
@@ -91,19 +43,6 @@ impl Controller {
         Change::Nothing(number)
     }
 
-    // 9: in Idle a listed station may speak, else the session's own alone.
-    fn may_charge(self, source: u8) -> bool
-        ensures { λ r. ⌜ r ≡ mayCharge self source ⌝ }
-    {
-        let s = self.session;
-        let state = s.state;
-        if is_idle(state) {
-            is_listed(source, self.settings.stations)
-        } else {
-            source == s.station
-        }
-    }
-
     // 10, then the session.
     fn content_taken(self, source: u8, content: Content) -> Change
         ensures { λ r. ⌜ answerOf self r ≡ contentTaken self source content ⌝ }
@@ -117,10 +56,13 @@ impl Controller {
         }
     }
 
+    // 9, then the content.
     fn charge_to(self, source: u8, k: Charge, bytes: &[u8]) -> Change
         ensures { λ r. ⌜ answerOf self r ≡ chargeTo self source k (now (bytes .entry)) ⌝ }
     {
-        if self.may_charge(source) {
+        let s = self.session;
+        let state = s.state;
+        if frame::may_speak(state, s.station, self.settings.stations, source) {
             self.content_taken(source, charge_messages::read_content(k, bytes))
         } else {
             self.refused(9)
@@ -165,18 +107,18 @@ impl Controller {
     pub fn change(self, id: u32, bytes: &[u8]) -> Change
         ensures { λ r. ⌜ FrameIs self id (now (bytes .entry)) (answerOf self r) ⌝ }
     {
-        if not_can(id, bytes) {
+        if frame::not_can(id, bytes) {
             return self.refused(3);
         }
         let p = Identifier::parts(id);
-        if flags_set(p) {
+        if frame::flags_set(p) {
             return self.refused(4);
         }
         let own = self.settings.own;
-        if not_for_us(own, p) {
+        if frame::not_for_us(own, p) {
             return self.refused(5);
         }
-        if bad_source(own, p) {
+        if frame::bad_source(own, p) {
             return self.refused(6);
         }
         self.known_to(p.source, received::recognize(p), bytes)

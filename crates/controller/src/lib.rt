@@ -9,7 +9,6 @@ use session::Taken;
 use settings::Settings;
 
 pub mod frame;
-pub mod sending;
 pub mod setup;
 pub mod tick;
 

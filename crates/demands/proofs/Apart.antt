@@ -36,8 +36,8 @@ use Rattle.broadcasts.specs.declared.beat.Beat.{Beat}
 use Rattle.queries.specs.declared.Queries.{Queries}
 use Rattle.controller.specs.declared.Controller.{Controller}
 use Rattle.controller.specs.declared.Answer.{Answer}
-use Rattle.controller.specs.Frame.{isIdle, mayCharge, withSession, contentTaken, chargeTo, withQueries, queryTo, messageTo, knownTo, frameTo}
-use Rattle.controller.specs.Frame.{listed, notCan, flagsSet, notForUs, badSource, refused}
+use Rattle.refusals.specs.Frame.{isIdle, listed, notCan, flagsSet, notForUs, badSource}
+use Rattle.controller.specs.Frame.{refused, mayCharge, withSession, contentTaken, chargeTo, withQueries, queryTo, messageTo, knownTo, frameTo}
 use Rattle.controller.specs.Tick.{accepted, chargeFrames}
 use Rattle.controller.specs.Start.{freshOf, startWith, startOf}
 use Rattle.demands.specs.Machine.{started, On, paperNext, boxAfter}

@@ -22,7 +22,8 @@ use Rattle.charge_messages.specs.Content.{contentOf}
 use Rattle.session.specs.Message.{messageOf}
 use Rattle.controller.specs.declared.Controller.{Controller}
 use Rattle.controller.specs.declared.Answer.{Answer}
-use Rattle.controller.specs.Frame.{refused, notCan, flagsSet, notForUs, badSource, isIdle, listed, mayCharge, withSession, contentTaken, chargeTo, withQueries, queryTo, messageTo, knownTo, frameTo}
+use Rattle.refusals.specs.Frame.{notCan, flagsSet, notForUs, badSource, isIdle, listed}
+use Rattle.controller.specs.Frame.{refused, mayCharge, withSession, contentTaken, chargeTo, withQueries, queryTo, messageTo, knownTo, frameTo}
 use Rattle.demands.proofs.Tests.{second}
 use Rattle.demands.specs.Says.{chargeOf, Says}
 

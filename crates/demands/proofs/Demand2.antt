@@ -26,7 +26,8 @@ use Rattle.controller.specs.declared.Start.the-variants.{Made, Refused}
 use Rattle.controller.specs.declared.Ticked.{Ticked}
 use Rattle.controller.specs.Start.{freshOf, startWith, startOf, startNumber}
 use Rattle.controller.specs.Frame.{frameTo}
-use Rattle.controller.specs.Tick.{tickNumber, tickFrames, tickNext, accepted, TickIs}
+use Rattle.refusals.specs.Tick.{tickNumber}
+use Rattle.controller.specs.Tick.{tickFrames, tickNext, accepted, TickIs}
 use Rattle.demands.specs.Machine.{Call, Read, Receive, Tick, Write, Box, Off, On, Gave, paperNext, started, boxAfter, seenOf, run, boxAt}
 use Rattle.demands.specs.InStep.{codeOf, codeBox, InStep}
 use Rattle.demands.proofs.Steps.{frame-steps, frames-step, next-steps}

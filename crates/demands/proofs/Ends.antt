@@ -22,7 +22,8 @@ use Rattle.session.specs.declared.Session.{Session}
 use Rattle.session.specs.Message.{sessionAfter, appliedOf, messageOf}
 use Rattle.controller.specs.declared.Controller.{Controller}
 use Rattle.controller.specs.declared.Answer.{Answer}
-use Rattle.controller.specs.Frame.{refused, isIdle, withSession, frameTo}
+use Rattle.refusals.specs.Frame.{isIdle}
+use Rattle.controller.specs.Frame.{refused, withSession, frameTo}
 use Rattle.controller.specs.Start.{freshOf}
 use Rattle.demands.specs.Says.{Says}
 use Rattle.demands.specs.Apart.{Event, Came, Beaten, Wrote, Reread, accepts, readInto, isRead, after, afterAll, ended}

@@ -14,7 +14,7 @@ use Rattle.outcomes.specs.declared.Outcome.the-variants.{Refuse, Keep, End}
 use Rattle.outcomes.specs.Message.{outcomeOf, inIdle, inOffered, inUnverified, inParameters, inReady, readyOf, crmOf, inCharging, inStopping, inError}
 use Rattle.session.specs.declared.Session.{Session}
 use Rattle.session.specs.Message.{sessionAfter}
-use Rattle.controller.specs.Frame.{isIdle}
+use Rattle.refusals.specs.Frame.{isIdle}
 use Rattle.demands.specs.Kinds.{isCharging, isStopping}
 use Rattle.demands.specs.Ends.{endsBy, leavesBy}
 use Rattle.demands.proofs.Came.{same}

@@ -17,7 +17,8 @@ use Rattle.outcomes.specs.Message.{outcomeOf, inIdle}
 use Rattle.session.specs.Message.{sessionAfter, appliedOf, messageOf}
 use Rattle.controller.specs.declared.Controller.{Controller}
 use Rattle.controller.specs.declared.Answer.{Answer}
-use Rattle.controller.specs.Frame.{refused, isIdle, mayCharge, listed, withSession, frameTo}
+use Rattle.refusals.specs.Frame.{isIdle, listed}
+use Rattle.controller.specs.Frame.{refused, mayCharge, withSession, frameTo}
 use Rattle.demands.specs.Says.{Says}
 use Rattle.demands.specs.Over.{openedWith, Opens, Ignored}
 use Rattle.demands.proofs.Tests.{first}

@@ -27,7 +27,8 @@ use Rattle.session.specs.declared.Session.{Session}
 use Rattle.session.specs.Message.{sessionAfter, appliedOf, messageOf}
 use Rattle.literal.specs.Literal.{literalTick}
 use Rattle.controller.specs.declared.Controller.{Controller}
-use Rattle.controller.specs.Frame.{isIdle, listed, frameTo}
+use Rattle.refusals.specs.Frame.{isIdle, listed}
+use Rattle.controller.specs.Frame.{frameTo}
 use Rattle.demands.specs.Machine.{paperNext}
 use Rattle.demands.specs.Apart.{Event, Came, Beaten, Wrote, Reread, accepts, readInto, isRead, after, afterAll, ended, heard}
 use Rattle.demands.specs.Silent.{endsWithin}

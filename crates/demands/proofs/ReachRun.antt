@@ -15,7 +15,7 @@ use Rattle.charge_messages.specs.declared.ChargeMessage.the-variants.{Cim, Cvm,
 use Rattle.charge_messages.specs.Content.{contentOf}
 use Rattle.outcomes.specs.Offer.{acceptedOf}
 use Rattle.controller.specs.Start.{freshOf}
-use Rattle.controller.specs.Frame.{notCan, flagsSet, notForUs, badSource, listed}
+use Rattle.refusals.specs.Frame.{notCan, flagsSet, notForUs, badSource, listed}
 use Rattle.demands.specs.Apart.{Event, Came, Beaten, afterAll, isQuery, queryIn, fromStation, reaches, heard}
 use Rattle.demands.specs.Silent.{ticked, ticksIn}
 use Rattle.demands.specs.Says.{Says}

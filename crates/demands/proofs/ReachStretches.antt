@@ -25,7 +25,7 @@ use Rattle.session.specs.declared.Session.{Session}
 use Rattle.session.specs.Message.{sessionAfter}
 use Rattle.session.specs.Tick.{turnedBy, turnIn}
 use Rattle.literal.specs.Literal.{grown, literalIn, literalAdvance, literalTick}
-use Rattle.controller.specs.Frame.{isIdle}
+use Rattle.refusals.specs.Frame.{isIdle}
 use Rattle.demands.specs.Reach.{chargingWith, Stretch, UntilCvm, UntilVerified, UntilCmp, UntilCrm, besides}
 
 abbrev pub mk : ℕ → ℕ → ℕ → State → Session

@@ -35,8 +35,9 @@ use Rattle.session.specs.declared.Session.{Session}
 use Rattle.session.specs.Tick.{turnedBy, turnIn}
 use Rattle.literal.specs.Literal.{grown, counted, literalIn, literalAdvance, literalTick}
 use Rattle.controller.specs.declared.Controller.{Controller}
-use Rattle.controller.specs.Frame.{isIdle, frameTo}
-use Rattle.controller.specs.Tick.{tickNumber}
+use Rattle.refusals.specs.Frame.{isIdle}
+use Rattle.controller.specs.Frame.{frameTo}
+use Rattle.refusals.specs.Tick.{tickNumber}
 use Rattle.demands.specs.Machine.{paperNext}
 use Rattle.demands.specs.Apart.{Event, Came, Beaten, Wrote, Reread, accepts, readInto, after, ended, fromStation}
 use Rattle.demands.specs.Silent.{Unheard, Silence, quietAt, sendsNothing, ticked, ticksIn, endsWithin, repeated, EndsBy, longest}

@@ -19,7 +19,8 @@ use Rattle.outcomes.specs.Message.{outcomeOf, inOffered, inUnverified, inParame
 use Rattle.session.specs.declared.Session.{Session}
 use Rattle.session.specs.Message.{sessionAfter, appliedOf, messageOf}
 use Rattle.controller.specs.declared.Controller.{Controller}
-use Rattle.controller.specs.Frame.{isIdle, frameTo}
+use Rattle.refusals.specs.Frame.{isIdle}
+use Rattle.controller.specs.Frame.{frameTo}
 use Rattle.demands.specs.Apart.{Came, ended, queryIn, isQuery, fromStation}
 use Rattle.demands.specs.Says.{Says}
 use Rattle.demands.specs.Kinds.{isStopping}

@@ -32,7 +32,7 @@ use Rattle.session.specs.Tick.{turnedBy, turnIn}
 use Rattle.literal.specs.Literal.{older, grown, counted, literalIn, literalAdvance, literalTick}
 use Rattle.controller.specs.declared.Controller.{Controller}
 use Rattle.demands.specs.Machine.{paperNext}
-use Rattle.controller.specs.Frame.{isIdle}
+use Rattle.refusals.specs.Frame.{isIdle}
 use Rattle.demands.specs.Apart.{Event, Came, Beaten, Wrote, Reread, accepts, readInto, after, ended}
 use Rattle.demands.specs.Says.{Says}
 use Rattle.demands.specs.Silent.{feeds, Unheard, Silence, ticksIn, endsWithin, longest}

@@ -31,7 +31,8 @@ use Rattle.literal.proofs.InStep.{tick-in-step, frames-in-step}
 use Rattle.literal.proofs.Outcomes.{message-folds}
 use Rattle.controller.specs.declared.Controller.{Controller}
 use Rattle.controller.specs.declared.Answer.{Answer}
-use Rattle.controller.specs.Frame.{notCan, flagsSet, notForUs, badSource, isIdle, mayCharge, withSession, contentTaken, chargeTo, withQueries, queryTo, messageTo, knownTo, frameTo, refused}
+use Rattle.refusals.specs.Frame.{notCan, flagsSet, notForUs, badSource, isIdle}
+use Rattle.controller.specs.Frame.{mayCharge, withSession, contentTaken, chargeTo, withQueries, queryTo, messageTo, knownTo, frameTo, refused}
 use Rattle.controller.specs.Tick.{tickFrames, chargeFrames, broadcastFrames, cellFrames, tickNext}
 use Rattle.demands.specs.Machine.{paperNext}
 use Rattle.demands.specs.InStep.{codeOf}

@@ -18,7 +18,7 @@ use Rattle.turns.specs.Turns.{cellFull, turnOf}
 use Rattle.session.specs.Tick.{turnedBy, turnIn}
 use Rattle.literal.specs.Literal.{literalIn, literalAdvance, literalTick}
 use Rattle.controller.specs.declared.Controller.{Controller}
-use Rattle.controller.specs.Frame.{isIdle}
+use Rattle.refusals.specs.Frame.{isIdle}
 use Rattle.demands.specs.Machine.{paperNext}
 use Rattle.demands.specs.Apart.{Beaten, accepts, after, ended}
 use Rattle.demands.specs.Kinds.{isCharging}

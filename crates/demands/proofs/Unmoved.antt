@@ -25,8 +25,8 @@ use Rattle.broadcasts.specs.declared.beat.Beat.{Beat}
 use Rattle.queries.specs.declared.Queries.{Queries}
 use Rattle.controller.specs.declared.Controller.{Controller}
 use Rattle.controller.specs.declared.Answer.{Answer}
-use Rattle.controller.specs.Frame.{mayCharge, withSession, contentTaken, chargeTo, withQueries, queryTo, messageTo, knownTo, frameTo}
-use Rattle.controller.specs.Frame.{notCan, flagsSet, notForUs, badSource, refused}
+use Rattle.refusals.specs.Frame.{notCan, flagsSet, notForUs, badSource}
+use Rattle.controller.specs.Frame.{refused, mayCharge, withSession, contentTaken, chargeTo, withQueries, queryTo, messageTo, knownTo, frameTo}
 use Rattle.controller.specs.Tick.{broadcastFrames, cellFrames}
 use Rattle.demands.specs.Machine.{paperNext}
 use Rattle.demands.specs.Apart.{Event, Came, Beaten, Wrote, Reread, accepts, readInto, after, chargeIn, isCharge}

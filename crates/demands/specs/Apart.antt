@@ -18,8 +18,10 @@ use Rattle.settings.specs.declared.SettingsRead.the-variants as read
 use Rattle.settings.specs.Read.{readOf}
 use Rattle.session.specs.declared.Session.{Session}
 use Rattle.controller.specs.declared.Controller.{Controller}
-use Rattle.controller.specs.Frame.{frameTo, isIdle}
-use Rattle.controller.specs.Tick.{tickNumber, chargeFrames}
+use Rattle.refusals.specs.Frame.{isIdle}
+use Rattle.controller.specs.Frame.{frameTo}
+use Rattle.refusals.specs.Tick.{tickNumber}
+use Rattle.controller.specs.Tick.{chargeFrames}
 use Rattle.controller.specs.Start.{freshOf}
 use Rattle.demands.specs.Machine.{Call, Read, Receive, Tick, Write, paperNext}
 

@@ -20,7 +20,8 @@ use Rattle.controller.specs.declared.Start.{Start}
 use Rattle.controller.specs.declared.Start.the-variants.{Made, Refused}
 use Rattle.controller.specs.Start.{startOf}
 use Rattle.controller.specs.Frame.{frameTo}
-use Rattle.controller.specs.Tick.{tickNumber, tickFrames, accepted}
+use Rattle.refusals.specs.Tick.{tickNumber}
+use Rattle.controller.specs.Tick.{tickFrames, accepted}
 
 -- a call, with all that it lends: a settings record; a received frame, identifier and data; a tick, its readings, voltages and
 -- temperatures and the buffer as it is; settings written, with the buffer as it is

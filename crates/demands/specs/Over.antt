@@ -13,7 +13,8 @@ use Rattle.charge_messages.specs.declared.ChargeMessage.the-variants.{Cim}
 use Rattle.states.specs.declared.State.the-variants.{Offered}
 use Rattle.session.specs.declared.Session.{Session}
 use Rattle.controller.specs.declared.Controller.{Controller}
-use Rattle.controller.specs.Frame.{listed, frameTo}
+use Rattle.refusals.specs.Frame.{listed}
+use Rattle.controller.specs.Frame.{frameTo}
 use Rattle.demands.specs.Says.{Says}
 
 -- a session just opened with a station

@@ -1,6 +1,6 @@
 -- `controller::Controller::change` meets its contract: the checks in numeric order. Assumes nothing.
 use mathlib.Core.Path.{sym, _∙_, ap}
-use Rattle.controller.specs.Frame.{flagsSet, notForUs, badSource}
+use Rattle.refusals.specs.Frame.{flagsSet, notForUs, badSource}
 use Rattle.controller.specs.Frame.{frameTo}
 use borrow.Author.Needs.{needs}
 use Rattle.controller.proofs.Controller.change.Statement.{statement}

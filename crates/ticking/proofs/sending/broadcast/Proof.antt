@@ -1,0 +1,39 @@
+-- `ticking::sending::broadcast` meets its contract: five frames, one after the other. Assumes nothing.
+use Rattle.frames.proofs.Laws.{sent-then}
+use borrow.Author.Needs.{needs}
+use Rattle.ticking.proofs.sending.broadcast.Statement.{statement}
+use Rattle.ticking.proofs.sending.broadcast.Tie as tie
+
+send-requires : tie.Need-send-requires
+send-requires c κs = search needs
+
+send-requires-2 : tie.Need-send-requires-2
+send-requires-2 c κs = search needs
+
+send-requires-3 : tie.Need-send-requires-3
+send-requires-3 c κs = search needs
+
+send-requires-4 : tie.Need-send-requires-4
+send-requires-4 c κs = search needs
+
+send-requires-5 : tie.Need-send-requires-5
+send-requires-5 c κs = search needs
+
+same-length : tie.Need-same-length
+same-length c = search needs
+
+returns : tie.Need-returns
+returns c = sent-then (c .before .before .before .before .before .before .before .before .before .before .before .before .before .before .before .before .before .before .send .ensures)
+    (sent-then (c .before .before .before .before .before .before .before .before .before .before .before .before .before .before .send2 .ensures) (sent-then (c .before .before .before .before .before .before .before .before .before .before .send3 .ensures) (sent-then (c .before .before .before .before .before .before .send4 .ensures) (c .before .before .send5 .ensures))))
+
+pub broadcast-spec : {M : Type 1} → statement M
+broadcast-spec =
+    tie.close
+    (tie.spec
+    send-requires
+    send-requires-2
+    send-requires-3
+    send-requires-4
+    send-requires-5
+    same-length
+    returns)
