@@ -6,7 +6,6 @@ ghost use Rattle.layouts.specs.Layouts.{markOf, holdVoltage, rawRequest,
 use cells::Cells;
 use cells::sent;
 use frames::Frame;
-use messages::table;
 use phases::Phase;
 use readings::Readings;
 use settings::Settings;
@@ -33,7 +32,7 @@ pub fn eim(x: Settings, station: u8, on: bool) -> Frame
     let v = x.pack.0;
     let m = mark(on);
     Frame::new(
-        table::row_at(table::EIM),
+        rows::eim(),
         station,
         x.own,
         [(v % 256) as u8, (v / 256) as u8, m, 0, 0, 0, 0, 0],
@@ -48,7 +47,7 @@ pub fn evm(x: Settings, station: u8, r: Readings, verified: bool) -> Frame
     let v = r.pack.0;
     let m = mark(verified);
     Frame::new(
-        table::row_at(table::EVM),
+        rows::evm(),
         station,
         x.own,
         [
@@ -73,7 +72,7 @@ pub fn ecp(x: Settings, station: u8) -> Frame
     let c = x.pack.0;
     let d = x.temperature;
     Frame::new(
-        table::row_at(table::ECP),
+        rows::ecp(),
         station,
         x.own,
         [
@@ -95,7 +94,7 @@ pub fn erm(x: Settings, station: u8, accepted: bool) -> Frame
 {
     let m = mark(accepted);
     Frame::new(
-        table::row_at(table::ERM),
+        rows::erm(),
         station,
         x.own,
         [m, 0, 0, 0, 0, 0, 0, 0],
@@ -127,7 +126,7 @@ fn ecr_frame(x: Settings, station: u8, v: u16, i: u16, mode: u8) -> Frame
     ensures { λ f. ⌜ f ≡ ecrFrame x station v i mode ⌝ }
 {
     Frame::new(
-        table::row_at(table::ECR),
+        rows::ecr(),
         station,
         x.own,
         [
@@ -173,7 +172,7 @@ pub fn ecs(x: Settings, station: u8, r: Readings, c: Cells) -> Frame
     let h = c.volts.highest.value;
     let soc = r.soc;
     Frame::new(
-        table::row_at(table::ECS),
+        rows::ecs(),
         station,
         x.own,
         [
@@ -199,7 +198,7 @@ pub fn esm(x: Settings, station: u8, c: Cells) -> Frame
     let e = c.heat.lowest.value;
     let f = sent::index_byte(c.heat.lowest.index);
     Frame::new(
-        table::row_at(table::ESM),
+        rows::esm(),
         station,
         x.own,
         [a, (b % 256) as u8, d, (e % 256) as u8, f, 0x01, 0, 0],
@@ -212,7 +211,7 @@ pub fn est(x: Settings, station: u8, first: u8, second: u8, acknowledged: bool) 
 {
     let m = mark(acknowledged);
     Frame::new(
-        table::row_at(table::EST),
+        rows::est(),
         station,
         x.own,
         [first, second, m, 0, 0, 0, 0, 0],
@@ -229,7 +228,7 @@ pub fn edm(x: Settings, station: u8, r: Readings, c: Cells) -> Frame
     let d = c.heat.lowest.value;
     let e = c.heat.highest.value;
     Frame::new(
-        table::row_at(table::EDM),
+        rows::edm(),
         station,
         x.own,
         [
@@ -250,7 +249,7 @@ pub fn eem(x: Settings, station: u8) -> Frame
     ensures { λ f. ⌜ f ≡ eemOf x station ⌝ }
 {
     Frame::new(
-        table::row_at(table::EEM),
+        rows::eem(),
         station,
         x.own,
         [0x10, 0x00, 0x00, 0, 0, 0, 0, 0],

@@ -5,8 +5,8 @@ use borrow.Author.Needs.{needs}
 use Rattle.layouts.proofs.ecr_frame.Statement.{statement}
 use Rattle.layouts.proofs.ecr_frame.Tie as tie
 
-row-at-requires : tie.Need-row-at-requires
-row-at-requires c κs = search needs
+ecr-requires : tie.Need-ecr-requires
+ecr-requires c κs = search needs
 
 cast-t8 : tie.Need-cast-t8
 cast-t8 c = search needs
@@ -25,8 +25,8 @@ new-requires c κs = search needs
 
 returns : tie.Need-returns
 unfolding ecrFrame
-returns c = c .new .ensures ∙ rw (c .before .row-at .ensures)
+returns c = c .new .ensures ∙ rw (c .before .ecr .ensures)
 
 pub ecr-frame-spec : {M : Type 1} → statement M
 ecr-frame-spec =
-    tie.close (tie.spec row-at-requires cast-t8 cast-t10 cast-t12 cast-t14 new-requires returns)
+    tie.close (tie.spec ecr-requires cast-t8 cast-t10 cast-t12 cast-t14 new-requires returns)

@@ -8,8 +8,8 @@ use Rattle.layouts.proofs.evm.Tie as tie
 mark-requires : tie.Need-mark-requires
 mark-requires c κs = search needs
 
-row-at-requires : tie.Need-row-at-requires
-row-at-requires c κs = search needs
+evm-requires : tie.Need-evm-requires
+evm-requires c κs = search needs
 
 cast-t10 : tie.Need-cast-t10
 cast-t10 c = search needs
@@ -28,14 +28,14 @@ new-requires c κs = search needs
 
 returns : tie.Need-returns
 unfolding evmOf
-returns c = c .new .ensures ∙ rw (c .before .row-at .ensures, c .before .before .mark .ensures)
+returns c = c .new .ensures ∙ rw (c .before .evm .ensures, c .before .before .mark .ensures)
 
 pub evm-spec : {M : Type 1} → statement M
 evm-spec =
     tie.close
     (tie.spec
     mark-requires
-    row-at-requires
+    evm-requires
     cast-t10
     cast-t12
     cast-t14
