@@ -93,12 +93,7 @@ pub fn erm(x: Settings, station: u8, accepted: bool) -> Frame
     ensures { λ f. ⌜ f ≡ ermOf x station accepted ⌝ }
 {
     let m = mark(accepted);
-    Frame::new(
-        rows::erm(),
-        station,
-        x.own,
-        [m, 0, 0, 0, 0, 0, 0, 0],
-    )
+    Frame::new(rows::erm(), station, x.own, [m, 0, 0, 0, 0, 0, 0, 0])
 }
 
 // The voltage of Hold: the one place where hundredths of a volt, 3.55 V a cell, become tenths of a pack.
