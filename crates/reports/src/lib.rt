@@ -77,43 +77,54 @@ impl Standing {
     }
 }
 
-// What a frame's line holds from the last ten digits of its seconds up to its identifier.
-type Head = [u8; 24];
-
-// The last digits of a number, so many of them. The number has 32 bits, since these are divided in fewer instructions than 64.
-fn padded(h: &mut Head, at: usize, n: u32, width: usize)
-    requires { ⌜ at + width ≤ 24 ⌝ }
-{
-    let mut rest = n;
-    let mut i = width;
-    while 0 < i {
-        i -= 1;
-        h[at + i] = b'0' + (rest % 10) as u8;
-        rest = rest / 10;
-    }
+// What a frame's line holds from the last ten digits of its seconds up to its identifier: three numbers of eight characters each, the first
+// character the lowest byte. The third is the same in every line.
+struct Head {
+    first: u64,
+    second: u64,
 }
 
-// The head of a tick's frames, 50 ms a tick: of the microseconds, the last four digits are always 0.
-fn head(tick: u64) -> Head {
-    let mut h = *b"0000000000.000000) can0 ";
-    let seconds = tick / 20;
-    if 100_000 <= seconds {
-        padded(&mut h, 0, (seconds / 100_000 % 100_000) as u32, 5);
+// `0) can0 `, which ends a head: of the microseconds, the last four digits are always 0.
+const INTERFACE: u64 = 0x2030_6e61_6320_2930;
+
+// The two digits of a number below 100, a byte each, the first the lowest.
+fn two(n: u32) -> u64 {
+    let tens = n / 10;
+    let ones = n % 10;
+    tens as u64 | (ones as u64) << 8
+}
+
+// The four digits of a number below 10,000.
+fn four(n: u32) -> u64 {
+    two(n / 100) | two(n % 100) << 16
+}
+
+// The last eight digits of a number. Each is `0` and its value together; of most numbers the first four are 0.
+fn eight(n: u64) -> u64 {
+    let last = four((n % 10_000) as u32) << 32 | 0x3030_3030_3030_3030;
+    if n < 10_000 {
+        return last;
     }
-    padded(&mut h, 5, (seconds % 100_000) as u32, 5);
-    padded(&mut h, 11, (tick % 20 * 5) as u32, 2);
-    h
+    four((n / 10_000 % 10_000) as u32) | last
+}
+
+// The head of a tick's frames, 50 ms a tick.
+fn head_of(tick: u64) -> Head {
+    let seconds = tick / 20;
+    let second = two((seconds % 100) as u32) | two((tick % 20 * 5) as u32) << 24;
+    Head {
+        first: eight(seconds / 100),
+        second: second | 0x3030_3030_302e_3030,
+    }
 }
 
 // The functions that lay are handed a place that has the room.
-fn lay_head(h: &Head, o: &mut Out, at: usize)
+fn lay_head(h: Head, o: &mut Out, at: usize)
     requires { ⌜ at + 24 ≤ 65536 ⌝ }
 {
-    let mut k = 0;
-    while k < 24 {
-        o[at + k] = h[k];
-        k += 1;
-    }
+    lay_eight(h.first, o, at);
+    lay_eight(h.second, o, at + 8);
+    lay_eight(INTERFACE, o, at + 16);
 }
 
 fn wide(b: u8) -> u64 {
@@ -121,7 +132,7 @@ fn wide(b: u8) -> u64 {
 }
 
 // Four bytes as one number, the first its lowest byte.
-fn four(a: u8, b: u8, c: u8, d: u8) -> u64 {
+fn joined(a: u8, b: u8, c: u8, d: u8) -> u64 {
     wide(a) | wide(b) << 8 | wide(c) << 16 | wide(d) << 24
 }
 
@@ -139,7 +150,7 @@ fn lowest(x: u64) -> u8 {
     (x % 256) as u8
 }
 
-fn lay_digits(x: u64, o: &mut Out, at: usize)
+fn lay_eight(x: u64, o: &mut Out, at: usize)
     requires { ⌜ at + 8 ≤ 65536 ⌝ }
 {
     o[at] = lowest(x);
@@ -156,13 +167,13 @@ fn lay_digits(x: u64, o: &mut Out, at: usize)
 fn lay_frame(buf: &Buffer, i: usize, o: &mut Out, at: usize)
     requires { ⌜ (at + 26 ≤ 65536) × (i + 13 ≤ 4096) ⌝ }
 {
-    let id = four(buf[i + 3], buf[i + 2], buf[i + 1], buf[i]);
-    let first = four(buf[i + 5], buf[i + 6], buf[i + 7], buf[i + 8]);
-    let second = four(buf[i + 9], buf[i + 10], buf[i + 11], buf[i + 12]);
-    lay_digits(digits(id), o, at);
+    let id = joined(buf[i + 3], buf[i + 2], buf[i + 1], buf[i]);
+    let first = joined(buf[i + 5], buf[i + 6], buf[i + 7], buf[i + 8]);
+    let second = joined(buf[i + 9], buf[i + 10], buf[i + 11], buf[i + 12]);
+    lay_eight(digits(id), o, at);
     o[at + 8] = b'#';
-    lay_digits(digits(first), o, at + 9);
-    lay_digits(digits(second), o, at + 17);
+    lay_eight(digits(first), o, at + 9);
+    lay_eight(digits(second), o, at + 17);
     o[at + 25] = b'\n';
 }
 
@@ -178,7 +189,10 @@ fn print_start(tick: u64, o: &mut Out, at: usize) -> usize {
 
 // The frames in the first n bytes of a buffer, as candump writes them. A whole frame begins at 4083 at the latest.
 pub fn print_frames(buf: &Buffer, n: usize, tick: u64, o: &mut Out, at: usize) -> usize {
-    let h = head(tick);
+    if n == 0 {
+        return at;
+    }
+    let h = head_of(tick);
     let mut a = at;
     let mut i = 0;
     while i < 4084 {
@@ -187,7 +201,7 @@ pub fn print_frames(buf: &Buffer, n: usize, tick: u64, o: &mut Out, at: usize) -
         }
         a = print_start(tick, o, a);
         a = printing::room(o, a);
-        lay_head(&h, o, a);
+        lay_head(h, o, a);
         lay_frame(buf, i, o, a + 24);
         a += 50;
         i += 13;

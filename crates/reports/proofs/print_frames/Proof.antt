@@ -10,8 +10,11 @@ Inv-loop buf n tick o₀ at h a₀ i₀ o a i = Unit {0}
 abbrev μ-loop : tie.MeasureT-loop
 μ-loop buf n tick o₀ at h a₀ i₀ o a i = 4096 - i
 
-head-requires : tie.Need-head-requires Inv-loop μ-loop
-head-requires c κs = search needs
+returns : tie.Need-returns Inv-loop μ-loop
+returns c = search needs
+
+head-of-requires : tie.Need-head-of-requires Inv-loop μ-loop
+head-of-requires c κs = search needs
 
 loop-holds : tie.Need-loop-holds Inv-loop μ-loop
 loop-holds c = search needs
@@ -43,11 +46,11 @@ loop-less c = search needs
 loop-again : tie.Need-loop-again Inv-loop μ-loop
 loop-again c = search needs
 
-returns : tie.Need-returns Inv-loop μ-loop
-returns c = search needs
-
 returns-2 : tie.Need-returns-2 Inv-loop μ-loop
 returns-2 c = search needs
+
+returns-3 : tie.Need-returns-3 Inv-loop μ-loop
+returns-3 c = search needs
 
 pub print-frames-spec : {M : Type 1} → statement M
 print-frames-spec =
@@ -55,7 +58,8 @@ print-frames-spec =
     (tie.spec
     Inv-loop
     μ-loop
-    head-requires
+    returns
+    head-of-requires
     loop-holds
     print-start-requires
     room-requires
@@ -66,5 +70,5 @@ print-frames-spec =
     add-i
     loop-less
     loop-again
-    returns
-    returns-2)
+    returns-2
+    returns-3)
