@@ -15,7 +15,8 @@ use Rattle.cells.specs.Summaries.{sumOf, highestOf, lowestOf, indexFrom}
 use Rattle.cells.specs.Walk.{greaterOf, lesserOf}
 use Rattle.cells.proofs.Extremes.{none-below, index-here, index-after}
 
--- a figure of a table (f) that a walk can make by keeping one value: that of k and x in front is that of the one value that is kept of both
+-- a walk can make the figure f by keeping one value: two cells in front count as the one value that is kept of them, and a cell alone is its
+-- own figure
 pub record Keeps (f : List ℕ → ℕ) (keep : ℕ → ℕ → ℕ) : Type 0 where
   pub both : (k x : ℕ) (xs : List ℕ) → f (k ∷ x ∷ xs) ≡ f (keep k x ∷ xs)
   pub one : (k : ℕ) → f (k ∷ []) ≡ k
