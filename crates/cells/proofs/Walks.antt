@@ -3,16 +3,16 @@
 use Prim.Native.Nat.{ℕ, suc, _+_, _≤_, _<_}
 use mathlib.Core.Path.{_≡_, refl, sym, _∙_}
 use mathlib.Core.List.{List, [], _∷_}
-use mathlib.Core.Bool.{Bool, true, false, cond}
-use native.Mathlib.Nat.{not-suc-le-zero}
+use mathlib.Core.Bool.{Bool, true, false, cond, _||_, true≢false}
+use native.Mathlib.Nat.{not-suc-le-zero, add-zero, add-assoc}
 use native.Mathlib.Numerals.{add-one}
 use native.Mathlib.Omega.{arith}
-use borrow.Author.Tests.{leb-true, leb-false, le-leb, lt-leb}
-use lib.Dec.{leb}
+use borrow.Author.Tests.{leb-true, leb-false, eqb-false, le-leb, lt-leb}
+use lib.Dec.{eqb, leb}
 use lib.ListN.{length, getD, drop, drop-of-length-le}
 use lib.Seq.{drop-cons}
 use Rattle.cells.specs.Summaries.{sumOf, highestOf, lowestOf, indexFrom}
-use Rattle.cells.specs.Walk.{greaterOf, lesserOf}
+use Rattle.cells.specs.Walk.{greaterOf, lesserOf, Passes}
 use Rattle.cells.proofs.Extremes.{none-below, index-here, index-after}
 
 -- a walk can make the figure f by keeping one value: two cells in front count as the one value that is kept of them, and a cell alone is its
@@ -98,12 +98,26 @@ lowest-begins [] h = absurd (not-suc-le-zero h)
 lowest-begins (x ∷ xs) h = no-lower x (lowestOf (x ∷ xs)) (leb x (lowestOf (x ∷ xs))) refl (none-below (x ∷ xs) 0 (omega arith))
 
 module _ (value : ℕ) (xs : List ℕ) where
+  -- a search that may go on at i may pass the cell there too, if it does not have the value
+  pub passes-one : (from i : ℕ) → i < length xs → (getD xs i 0 ≡ value → ⊥) → Passes value xs from i → Passes value xs from (i + 1)
+  passes-one from i l n e = e ∙ rw (add-one, drop-cons xs i 0 l) (index-after (suc i) value (getD xs i 0) (drop (suc i) xs) n)
+
+  pub passes-none : (from : ℕ) → Passes value xs from (from + 0)
+  passes-none from = rw add-zero
+
+  -- i cells are looked at, and `one` tells whether one of them has the value: the same with one cell more
+  pub passes-unless :
+      (from i : ℕ) (one : Bool) →
+      from + i < length xs →
+      (one ≡ false → Passes value xs from (from + i)) →
+      (one || eqb (getD xs (from + i) 0) value) ≡ false → Passes value xs from (from + (i + 1))
+  passes-unless from i true l before e = absurd (true≢false e)
+  passes-unless from i false l before e =
+      rw (← add-assoc from i 1) (passes-one from (from + i) l (eqb-false (getD xs (from + i) 0) value e) (before refl))
+
   -- the search has come to i, and none before has the value
   abbrev pub Sought : ℕ → Type 0
-  Sought i = indexFrom 1 value xs ≡ indexFrom (suc i) value (drop i xs)
-
-  pub sought-again : (i : ℕ) → i < length xs → (getD xs i 0 ≡ value → ⊥) → Sought i → Sought (i + 1)
-  sought-again i l n e = e ∙ rw (add-one, drop-cons xs i 0 l) (index-after (suc i) value (getD xs i 0) (drop (suc i) xs) n)
+  Sought i = Passes value xs 0 i
 
   pub sought-here : (i : ℕ) → i < length xs → getD xs i 0 ≡ value → Sought i → i + 1 ≡ indexFrom 1 value xs
   sought-here i l h e = sym (e ∙ rw (drop-cons xs i 0 l, h, add-one) (index-here (suc i) value (drop (suc i) xs)))

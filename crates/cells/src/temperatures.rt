@@ -1,10 +1,11 @@
 // What is said of the temperatures, as they are sent (01, "Broadcasts and cell answers"): the walks of `voltages`, each cell by its byte.
 ghost use mathlib.Core.Path.{_≡_};
-ghost use mathlib.Core.Bool.{true};
-ghost use Prim.Native.Nat.{_≤_};
+ghost use mathlib.Core.Bool.{true, false};
+ghost use Prim.Native.Nat.{_+_, _≤_};
 ghost use lib.ListN.{length};
 ghost use Rattle.cells.specs.Tables.{mostCells, every, temperatureOk, temperatureBytes};
 ghost use Rattle.cells.specs.Summaries.{sumOf, highestOf, lowestOf, indexFrom, summaryOf};
+ghost use Rattle.cells.specs.Walk.{Passes};
 use crate::Cell;
 use crate::Summary;
 use crate::tables;
@@ -49,11 +50,38 @@ fn lowest(t: &[i16]) -> u16
     low
 }
 
+fn one_of_eight(t: &[i16], at: usize, value: u16) -> bool
+    requires { ⌜ (at + 8 ≤ length (now t)) × (every temperatureOk (now t) ≡ true) ⌝ }
+    ensures { λ r. ⌜ (r ≡ false → Passes value (temperatureBytes (now (t .entry))) at (at + 8)) ⌝ }
+{
+    let mut one = false;
+    let mut i = 0;
+    while i < 8 {
+        one = one | (tables::temperature_within(t, at + i) as u16 == value);
+        i += 1;
+    }
+    one
+}
+
+fn passed(t: &[i16], value: u16) -> usize
+    requires { ⌜ every temperatureOk (now t) ≡ true ⌝ }
+    ensures { λ r. ⌜ (r ≤ length (now (t .entry))) × Passes value (temperatureBytes (now (t .entry))) 0 r ⌝ }
+{
+    let mut at = 0;
+    while 8 <= t.len() - at {
+        if one_of_eight(t, at, value) {
+            return at;
+        }
+        at += 8;
+    }
+    at
+}
+
 fn index_of(t: &[i16], value: u16) -> u16
     requires { ⌜ (length (now t) ≤ mostCells) × (every temperatureOk (now t) ≡ true) ⌝ }
     ensures { λ r. ⌜ r ≡ indexFrom 1 value (temperatureBytes (now (t .entry))) ⌝ }
 {
-    let mut place = 0;
+    let mut place = passed(t, value);
     while place < t.len() {
         if tables::temperature_within(t, place) as u16 == value {
             return (place + 1) as u16;

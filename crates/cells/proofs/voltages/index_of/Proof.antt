@@ -1,8 +1,7 @@
 -- `cells::voltages::index_of` meets its contract. The invariant: no cell passed has the value. Assumes nothing.
 use Prim.Native.Nat.{_≤_, _-_}
-use mathlib.Core.Path.{refl}
 use lib.ListN.{length}
-use Rattle.cells.proofs.Walks.{Sought, sought-again, sought-here, sought-none}
+use Rattle.cells.proofs.Walks.{Sought, passes-one, sought-here, sought-none}
 use borrow.Author.Needs.{needs}
 use Rattle.cells.proofs.voltages.index_of.Statement.{statement}
 use Rattle.cells.proofs.voltages.index_of.Tie as tie
@@ -13,8 +12,11 @@ Inv-loop v value place₀ place = (place ≤ length v) × Sought value v place
 abbrev μ-loop : tie.MeasureT-loop
 μ-loop v value place₀ place = length v - place
 
+passed-requires : tie.Need-passed-requires Inv-loop μ-loop
+passed-requires c κs = search needs
+
 loop-holds : tie.Need-loop-holds Inv-loop μ-loop
-loop-holds c = (search needs, refl)
+loop-holds c = c .passed .ensures
 
 mul-if1 : tie.Need-mul-if1 Inv-loop μ-loop
 mul-if1 c = search needs
@@ -30,7 +32,7 @@ cast-result c = search needs
 
 returns : tie.Need-returns Inv-loop μ-loop
 returns c =
-    let a = c .before .before .before .before .args in
+    let a = c .before .before .before .before .before .before .args in
     let l = c .before .before .before .loop in
     sought-here (a .value) (a .v .now) (l .place) (search needs) (c .if1 .taken) (l .inv .1)
 
@@ -42,13 +44,13 @@ loop-less c = search needs
 
 loop-again : tie.Need-loop-again Inv-loop μ-loop
 loop-again c =
-    let a = c .before .before .before .before .args in
+    let a = c .before .before .before .before .before .before .args in
     let l = c .before .before .before .loop in
-    (search needs, sought-again (a .value) (a .v .now) (l .place) (search needs) (c .if1 .left) (l .inv .1))
+    (search needs, passes-one (a .value) (a .v .now) 0 (l .place) (search needs) (c .if1 .left) (l .inv .1))
 
 returns-2 : tie.Need-returns-2 Inv-loop μ-loop
 returns-2 c =
-    let a = c .before .before .args in
+    let a = c .before .before .before .before .args in
     let l = c .before .loop in
     sought-none (a .value) (a .v .now) (l .place) (search needs) (l .inv .1)
 
@@ -58,6 +60,7 @@ index-of-spec =
     (tie.spec
     Inv-loop
     μ-loop
+    passed-requires
     loop-holds
     mul-if1
     shared-slice-read-if1
