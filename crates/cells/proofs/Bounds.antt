@@ -14,7 +14,7 @@ use Rattle.cells.specs.Summaries.{sumOf, highestOf, lowestOf, summaryOf,
 use Rattle.cells.specs.Bounds.{Bounded, BoundedCells}
 use Rattle.buffers.proofs.Tests.{and-left, and-right}
 use Rattle.cells.proofs.Every.{every-at, at-map}
-use Rattle.cells.proofs.Temperatures.{sent}
+use Rattle.cells.proofs.TemperatureByte.{sent}
 use Rattle.cells.proofs.Extremes.{In, highest-in, lowest-in, highest-first, lowest-first}
 
 -- what 14 says where it is not given

@@ -1,7 +1,7 @@
-pub mod Temperatures
+pub mod TemperatureByte
 pub mod Every
 pub mod Extremes
-pub mod Laws
+pub mod Walks
 pub mod Glance
 pub mod Bounds
 pub mod WorkedRows

@@ -1,17 +1,19 @@
--- What the inner functions of the walk promise: which of a cell and the best of those after it is kept. A reader of the public promises
--- needs neither: the law `walk-again` (proofs/Laws.antt) ties them to what is said of the whole table.
-use Prim.Native.Nat.{ℕ}
+-- What the inner functions of the walks promise: which of the value kept so far and a cell is kept, and which cells a search may pass. A
+-- reader of the public promises needs none of them: the laws of proofs/Walks.antt tie them to what is said of the whole table.
+use Prim.Native.Nat.{ℕ, suc}
+use mathlib.Core.Path.{_≡_}
 use mathlib.Core.Bool.{cond}
+use mathlib.Core.List.{List}
 use lib.Dec.{leb}
-use Rattle.cells.specs.declared.Cell.{Cell}
+use lib.ListN.{drop}
+use Rattle.cells.specs.Summaries.{indexFrom}
 
--- a tie goes to the cell in front
-abbrev pub higherOf : Cell → Cell → Cell
-higherOf here after = cond (leb (after .value) (here .value)) here after
-
-abbrev pub lowerOf : Cell → Cell → Cell
-lowerOf here after = cond (leb (here .value) (after .value)) here after
-
--- of a glance, which walks from the front and keeps no index (`passed-again`, proofs/Glance.antt)
 abbrev pub greaterOf : ℕ → ℕ → ℕ
 greaterOf a b = cond (leb a b) b a
+
+abbrev pub lesserOf : ℕ → ℕ → ℕ
+lesserOf a b = cond (leb a b) a b
+
+-- a search for the value may go on at the place `to` instead of `from`: the index that it finds is the same
+abbrev pub Passes : ℕ → List ℕ → ℕ → ℕ → Type 0
+Passes value xs from to = indexFrom (suc from) value (drop from xs) ≡ indexFrom (suc to) value (drop to xs)

@@ -5,6 +5,9 @@ pub mod figures;
 pub mod groups;
 pub mod sent;
 pub mod tables;
+mod temperatures;
+mod voltages;
+mod walk;
 
 // A cell's value and its index from 1.
 pub struct Cell {

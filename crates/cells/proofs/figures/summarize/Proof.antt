@@ -4,22 +4,22 @@ use Rattle.cells.proofs.Bounds.{fit, temperatures-good}
 use Rattle.cells.proofs.figures.summarize.Statement.{statement}
 use Rattle.cells.proofs.figures.summarize.Tie as tie
 
-voltages-requires : tie.Need-voltages-requires
-voltages-requires c κs =
+summary-requires : tie.Need-summary-requires
+summary-requires c κs =
     let v = c .before .args .v .now in
     let t = c .before .args .t .now in
     let f = fit v t (c .before .pre .0) in
     (f .some, f .most)
 
-temperatures-requires : tie.Need-temperatures-requires
-temperatures-requires c κs =
+summary-requires-2 : tie.Need-summary-requires-2
+summary-requires-2 c κs =
     let v = c .before .before .args .v .now in
     let t = c .before .before .args .t .now in
     let f = fit v t (c .before .before .pre .0) in
     (omega (arith, f .same, f .some), omega (arith, f .same, f .most), temperatures-good v t (c .before .before .pre .1))
 
 returns : tie.Need-returns
-returns c = rw (c .before .voltages .ensures, c .temperatures .ensures)
+returns c = rw (c .before .summary .ensures, c .summary2 .ensures)
 
 pub summarize-spec : {M : Type 1} → statement M
-summarize-spec = tie.close (tie.spec voltages-requires temperatures-requires returns)
+summarize-spec = tie.close (tie.spec summary-requires summary-requires-2 returns)

@@ -3,7 +3,7 @@ use mathlib.Core.Path.{ap, _∙_}
 use native.Mathlib.Omega.{arith}
 use lib.IntN.{natAbs}
 use mir.Facts.{toZ-ofZ}
-use Rattle.cells.proofs.Temperatures.{sent}
+use Rattle.cells.proofs.TemperatureByte.{sent}
 use Rattle.cells.proofs.tables.byte_of.Statement.{statement}
 use Rattle.cells.proofs.tables.byte_of.Tie as tie
 

@@ -1,7 +1,7 @@
--- `cells::figures::greater` meets its contract. Assumes nothing.
+-- `cells::walk::greater` meets its contract. Assumes nothing.
 use borrow.Author.Tests.{le-leb, lt-leb}
-use Rattle.cells.proofs.figures.greater.Statement.{statement}
-use Rattle.cells.proofs.figures.greater.Tie as tie
+use Rattle.cells.proofs.walk.greater.Statement.{statement}
+use Rattle.cells.proofs.walk.greater.Tie as tie
 
 returns : tie.Need-returns
 returns c = simp (le-leb _ _ (c .if1 .taken))

@@ -1,20 +1,21 @@
--- `cells::figures::highest` meets its contract. The invariant: the highest is the greater of the one passed and the highest of the rest.
+-- `cells::voltages::highest` meets its contract. The invariant: the highest of the table is that of the value kept and the cells to come.
 -- Assumes nothing.
 use Prim.Native.Nat.{_≤_, _-_}
 use lib.ListN.{length}
-use Rattle.cells.proofs.Glance.{Passed, passed-none, passed-again, passed-all}
+use Rattle.cells.specs.Summaries.{highestOf}
+use Rattle.cells.proofs.Walks.{Kept, kept-again, kept-all, highest-keeps, highest-begins}
 use borrow.Author.Needs.{needs}
-use Rattle.cells.proofs.figures.highest.Statement.{statement}
-use Rattle.cells.proofs.figures.highest.Tie as tie
+use Rattle.cells.proofs.voltages.highest.Statement.{statement}
+use Rattle.cells.proofs.voltages.highest.Tie as tie
 
 abbrev Inv-loop : tie.InvT-loop
-Inv-loop v high₀ i₀ high i = (i ≤ length v) × Passed v i high
+Inv-loop v high₀ i₀ high i = (i ≤ length v) × Kept highestOf v i high
 
 abbrev μ-loop : tie.MeasureT-loop
 μ-loop v high₀ i₀ high i = length v - i
 
 loop-holds : tie.Need-loop-holds Inv-loop μ-loop
-loop-holds c = (search needs, passed-none (c .before .args .v .now))
+loop-holds c = (search needs, highest-begins (c .before .args .v .now))
 
 mul-greater : tie.Need-mul-greater Inv-loop μ-loop
 mul-greater c = search needs
@@ -34,12 +35,12 @@ loop-less c = search needs
 loop-again : tie.Need-loop-again Inv-loop μ-loop
 loop-again c =
     let l = c .before .before .before .loop in
-    (search needs, rw (c .greater .ensures) (passed-again (c .before .before .before .before .before .args .v .now) (l .i) (l .high) (search needs) (l .inv .1)))
+    (search needs, rw (c .greater .ensures) (kept-again highestOf (c .before .before .before .before .before .args .v .now) highest-keeps (l .i) (l .high) (search needs) (l .inv .1)))
 
 returns : tie.Need-returns Inv-loop μ-loop
 returns c =
     let l = c .before .loop in
-    passed-all (c .before .before .before .args .v .now) (l .i) (l .high) (search needs) (l .inv .1)
+    kept-all highestOf (c .before .before .before .args .v .now) highest-keeps (l .i) (l .high) (search needs) (l .inv .1)
 
 pub highest-spec : {M : Type 1} → statement M
 highest-spec =
