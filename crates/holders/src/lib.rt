@@ -1,5 +1,5 @@
-// What a replay holds from call to call, and the lines that say what each call answered, sent and entered. There may be no controller yet,
-// which is said too. This crate may not know how a script is written, nor any rule of the paper.
+// What a replay holds from call to call, and the lines that say what a settings record, a frame or a write was answered and what it changed.
+// There may be no controller yet, which is said too. This crate may not know how a script is written, nor any rule of the paper.
 use broadcasts::beat::Beat;
 use controller::Change;
 use controller::Controller;
@@ -8,9 +8,6 @@ use printing::Out;
 use queries::Queries;
 use reports::Buffer;
 use reports::Standing;
-use scripts::lent::Lent;
-use scripts::lent::Temperatures;
-use scripts::lent::Voltages;
 use session::Session;
 use settings::Settings;
 use settings::Stations;
@@ -62,7 +59,8 @@ fn no_settings() -> Settings {
     }
 }
 
-fn standing(s: Session) -> Standing {
+// A session's standing, as it is printed.
+pub fn standing(s: Session) -> Standing {
     let state = s.state;
     Standing::of(state, s.station)
 }
@@ -115,7 +113,7 @@ impl Holder {
     }
 
     // A controller in use, after so many ticks.
-    fn of(c: Controller, accepted: u64, out: usize) -> Holder {
+    pub fn of(c: Controller, accepted: u64, out: usize) -> Holder {
         let settings = c.settings;
         let session = c.session;
         let beat = c.beat;
@@ -131,7 +129,8 @@ impl Holder {
         }
     }
 
-    fn controller(self) -> Controller {
+    // The controller in use, of its parts.
+    pub fn controller(self) -> Controller {
         let settings = self.settings;
         let session = self.session;
         let beat = self.beat;
@@ -144,7 +143,8 @@ impl Holder {
         }
     }
 
-    fn absent(self, o: &mut Out) -> usize {
+    // That there is no controller.
+    pub fn absent(self, o: &mut Out) -> usize {
         printing::text(o, self.out, b"no controller\n")
     }
 
@@ -184,55 +184,6 @@ impl Holder {
             change: change,
             out: a,
         }
-    }
-
-    fn tick(
-        self,
-        l: Lent,
-        v: &Voltages,
-        t: &Temperatures,
-        buf: &mut Buffer,
-        o: &mut Out,
-    ) -> Holder {
-        let before = standing(self.session);
-        let k = calls::ticked(self.controller(), l, v, t, buf);
-        let c = k.controller;
-        let now = standing(c.session);
-        let mut accepted = self.accepted;
-        let mut a = self.out;
-        if k.number == 0 {
-            a = reports::print_frames(buf, k.bytes, accepted, o, a);
-            accepted = next(accepted);
-        } else {
-            a = printing::numbered(o, a, b"tick ", k.number as u64);
-        }
-        if !now.same(before) {
-            a = now.print(o, a);
-        }
-        Holder::of(c, accepted, a)
-    }
-
-    // So many ticks; where there is no controller, that is said once.
-    pub fn ticks(
-        self,
-        n: u64,
-        l: Lent,
-        v: &Voltages,
-        t: &Temperatures,
-        buf: &mut Buffer,
-        o: &mut Out,
-    ) -> Holder {
-        let mut h = self;
-        let mut left = n;
-        if !self.made {
-            h.out = self.absent(o);
-            left = 0;
-        }
-        while 0 < left {
-            h = h.tick(l, v, t, buf, o);
-            left -= 1;
-        }
-        h
     }
 
     // A write leaves the controller as it is: the free place of the output then.

@@ -78,8 +78,7 @@ fn chunk(
     let n = or_end(text, p.filled, count);
     let last = lines::past_last(text, n);
     let mut rest = p.rest;
-    let mut r = p.run;
-    r = r.lines(rest, text, last, bytes, v, t, buf, o);
+    let r = rounds::lines(p.run, rest, text, last, bytes, v, t, buf, o);
     if 0 < last {
         rest = Rest::start();
     }

@@ -1,6 +1,5 @@
-// A run: what is kept from line to line, and what the lines of a script ask for, carried out. This crate may not know how the input is
-// read, how a line is written, nor any rule of the paper.
-ghost use Prim.Native.Nat.{_<_};
+// A run: what is kept from line to line, and what a line asks for that is neither a frame nor ticks apart, carried out. This crate may not
+// know how the input is read, how a line is written, nor any rule of the paper.
 use holders::Holder;
 use printing::Out;
 use reports::Buffer;
@@ -13,7 +12,6 @@ use scripts::lent::Temperatures;
 use scripts::lent::Voltages;
 use words::Text;
 use words::hex::Bytes;
-use words::lines::Rest;
 
 // All that a run keeps from line to line, but for the tables and the buffers: the controller with the free place of the output, what
 // ticks are lent, the clock, and the line's number.
@@ -37,14 +35,6 @@ fn heard(h: Holder, id: u32, bytes: &Bytes, n: usize, o: &mut Out) -> Holder {
     g.session = f.session(h.session);
     g.queries = f.queries(h.queries);
     g
-}
-
-// The place of the next line, which is past the one that was carried out.
-fn further(at: usize, next: usize, last: usize) -> usize
-    requires { ⌜ at < last ⌝ }
-    ensures { λ r. ⌜ at < r ⌝ }
-{
-    if at < next { next } else { last }
 }
 
 impl Run {
@@ -75,7 +65,7 @@ impl Run {
         match k.due(now) {
             Due::Ticks(ticks, later) => {
                 if h.made {
-                    h = h.ticks(ticks, self.lent, v, t, buf, o);
+                    h = spans::ticks(h, ticks, self.lent, v, t, buf, o);
                 }
                 h = heard(h, id, bytes, n, o);
                 r.clock = later;
@@ -87,7 +77,7 @@ impl Run {
     }
 
     // A line that is neither a frame nor ticks apart.
-    fn other(
+    pub fn other(
         self,
         asked: Asked,
         text: &Text,
@@ -111,50 +101,6 @@ impl Run {
             Asked::Settings(n) => h = h.settings(bytes, n, o),
             Asked::Write(n) => h.out = held.write(n, buf, o),
             _ => h.out = unreadable(self.number, o, h.out),
-        }
-        r.holder = h;
-        r
-    }
-
-    // The lines of the text up to a place, carried out one after the other, where `first` is what is known of a beginning of the first that
-    // was dropped. What is held is changed in one local, whose address the calls take, so that it is not taken apart and put together again
-    // at each line.
-    pub fn lines(
-        self,
-        first: Rest,
-        text: &Text,
-        last: usize,
-        bytes: &mut Bytes,
-        v: &mut Voltages,
-        t: &mut Temperatures,
-        buf: &mut Buffer,
-        o: &mut Out,
-    ) -> Run {
-        let mut r = self;
-        let mut h = self.holder;
-        let mut rest = first;
-        let mut at = 0;
-        while at < last {
-            let line = scripts::read_line(text, at, rest, bytes);
-            r.number = holders::next(r.number);
-            let asked = line.asked;
-            match asked {
-                Asked::Frame(id, n) => {
-                    let f = h.frame(id, bytes, n, o);
-                    h.out = f.out;
-                    h.session = f.session(h.session);
-                    h.queries = f.queries(h.queries);
-                }
-                Asked::Ticks(n) => h = h.ticks(n, r.lent, v, t, buf, o),
-                _ => {
-                    r.holder = h;
-                    r = r.other(asked, text, at, bytes, v, t, buf, o);
-                    let g = r.holder;
-                    h = g;
-                }
-            }
-            rest = Rest::start();
-            at = further(at, words::after(line.end), last);
         }
         r.holder = h;
         r

@@ -1,7 +1,7 @@
--- `holders::Holder::ticks` is safe and ends: the ticks that are left fall. Assumes nothing.
+-- `spans::ticks` is safe and ends: the ticks that are left fall. Assumes nothing.
 use borrow.Author.Needs.{needs}
-use Rattle.holders.proofs.Holder.ticks.Statement.{statement}
-use Rattle.holders.proofs.Holder.ticks.Tie as tie
+use Rattle.spans.proofs.ticks.Statement.{statement}
+use Rattle.spans.proofs.ticks.Tie as tie
 
 abbrev Inv-loop : tie.InvT-loop
 Inv-loop n l v t buf₀ o₀ h₀ left₀ buf o h left = Unit {0}

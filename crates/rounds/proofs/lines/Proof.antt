@@ -1,8 +1,8 @@
--- `runs::Run::lines` is safe and ends: what is left of the text falls. Assumes nothing.
+-- `rounds::lines` is safe and ends: what is left of the text falls. Assumes nothing.
 use borrow.Author.Needs.{needs}
 use Prim.Native.Nat.{_-_}
-use Rattle.runs.proofs.Run.lines.Statement.{statement}
-use Rattle.runs.proofs.Run.lines.Tie as tie
+use Rattle.rounds.proofs.lines.Statement.{statement}
+use Rattle.rounds.proofs.lines.Tie as tie
 
 abbrev Inv-loop : tie.InvT-loop
 Inv-loop text last bytes₀ v₀ t₀ buf₀ o₀ r₀ h₀ rest₀ at₀ bytes v t buf o r h rest at = Unit {0}
