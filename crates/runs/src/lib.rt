@@ -2,15 +2,15 @@
 // read, how a line is written, nor any rule of the paper.
 ghost use Prim.Native.Nat.{_<_};
 use holders::Holder;
+use lendings::Lending;
+use lendings::lent::Lent;
+use lendings::lent::Temperatures;
+use lendings::lent::Voltages;
 use printing::Out;
 use reports::Buffer;
 use scripts::Asked;
-use scripts::Lending;
 use scripts::clock::Clock;
 use scripts::clock::Due;
-use scripts::lent::Lent;
-use scripts::lent::Temperatures;
-use scripts::lent::Voltages;
 use words::Text;
 use words::hex::Bytes;
 use words::lines::Rest;
@@ -103,7 +103,7 @@ impl Run {
         let mut h = held;
         match asked {
             Asked::Nothing => {}
-            Asked::Lends(what) => match scripts::lent_by(what, text, at, self.lent, v, t) {
+            Asked::Lends(what) => match lendings::lent_by(what, text, at, self.lent, v, t) {
                 Lending::Of(lent) => r.lent = lent,
                 Lending::Not => h.out = unreadable(self.number, o, h.out),
             },
