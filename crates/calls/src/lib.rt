@@ -5,7 +5,7 @@ use controller::Change;
 use controller::Controller;
 use controller::Start;
 use controller::Ticked;
-use scripts::lent::Lent;
+use lendings::lent::Lent;
 
 fn least(a: usize, b: usize) -> usize
     ensures { λ r. ⌜ r ≤ b ⌝ }

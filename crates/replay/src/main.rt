@@ -1,12 +1,12 @@
 // Replays a list of calls: reads them on standard input, a line each (crate scripts), and writes what the controller answers, sends and
 // enters. A blank line or one that begins with `#` is ignored; one that asks for nothing known is answered `unreadable line N`. This
 // crate only joins: it may not know how a line is written, how an answer is printed, or any rule of the paper.
+use lendings::lent::Temperatures;
+use lendings::lent::Voltages;
 use libc::STDIN_FILENO;
 use printing::Out;
 use reports::Buffer;
 use runs::Run;
-use scripts::lent::Temperatures;
-use scripts::lent::Voltages;
 use words::Text;
 use words::hex::Bytes;
 use words::lines;

@@ -1,12 +1,12 @@
 // The lines that one read of the input ends, carried out one after the other. This crate may not know how the input is read, how a line is
 // written, nor any rule of the paper.
 ghost use Prim.Native.Nat.{_<_};
+use lendings::lent::Temperatures;
+use lendings::lent::Voltages;
 use printing::Out;
 use reports::Buffer;
 use runs::Run;
 use scripts::Asked;
-use scripts::lent::Temperatures;
-use scripts::lent::Voltages;
 use words::Text;
 use words::hex::Bytes;
 use words::lines::Rest;

@@ -1,15 +1,15 @@
 // A run: what is kept from line to line, and what a line asks for that is neither a frame nor ticks apart, carried out. This crate may not
 // know how the input is read, how a line is written, nor any rule of the paper.
 use holders::Holder;
+use lendings::Lending;
+use lendings::lent::Lent;
+use lendings::lent::Temperatures;
+use lendings::lent::Voltages;
 use printing::Out;
 use reports::Buffer;
 use scripts::Asked;
-use scripts::Lending;
 use scripts::clock::Clock;
 use scripts::clock::Due;
-use scripts::lent::Lent;
-use scripts::lent::Temperatures;
-use scripts::lent::Voltages;
 use words::Text;
 use words::hex::Bytes;
 
@@ -93,7 +93,7 @@ impl Run {
         let mut h = held;
         match asked {
             Asked::Nothing => {}
-            Asked::Lends(what) => match scripts::lent_by(what, text, at, self.lent, v, t) {
+            Asked::Lends(what) => match lendings::lent_by(what, text, at, self.lent, v, t) {
                 Lending::Of(lent) => r.lent = lent,
                 Lending::Not => h.out = unreadable(self.number, o, h.out),
             },

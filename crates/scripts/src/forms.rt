@@ -1,6 +1,7 @@
 // What kind of line a line is, and the bytes and the frame that stand in it.
 use crate::clock;
 use crate::clock::Time;
+use lendings::Lend;
 use words::Text;
 use words::hex;
 use words::hex::Bytes;
@@ -23,14 +24,6 @@ pub enum Kind {
 pub enum When {
     Now,
     At(u64),
-}
-
-// What a line sets of what ticks are lent.
-pub enum Lend {
-    Readings,
-    Voltages,
-    Temperatures,
-    Buffer,
 }
 
 // The bytes of a settings record: how many.

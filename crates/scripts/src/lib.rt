@@ -8,17 +8,13 @@
 //   ID#DATA                         a received frame, in hex
 //   (SECONDS.MICROS) IFACE ID#DATA  the same from a candump log, after the ticks that are due by then
 //   write N                         the settings in use, into a buffer of N bytes
-// Besides, what ticks are lent, and which are due by a candump log's clock. This crate may not know any controller, nor what a call comes
-// to.
+// Besides, which ticks are due by a candump log's clock. This crate may not know any controller, nor what a call comes to.
 use forms::Counted;
 use forms::Kind;
-use forms::Lend;
 use forms::Received;
 use forms::When;
-use lent::Lent;
-use lent::Temperatures;
-use lent::Voltages;
-use tables::Table;
+use lendings::Lend;
+use lendings::tables;
 use words::Text;
 use words::hex::Bytes;
 use words::lines;
@@ -26,8 +22,6 @@ use words::lines::Rest;
 
 pub mod clock;
 pub mod forms;
-pub mod lent;
-pub mod tables;
 
 // What a line asks for: nothing, a settings record of so many bytes, that later ticks are lent something else, so many ticks, a received
 // frame (its identifier and the number of its data bytes), a frame of a log at its time, or the settings in use written into so many
@@ -49,15 +43,6 @@ pub struct Line {
     pub end: usize,
 }
 
-// What each later tick is lent, by a line that sets it.
-pub enum Lending {
-    Of(Lent),
-    Not,
-}
-
-// The longest buffer that a line may ask for.
-const MOST: u64 = 4096;
-
 // As many characters as a line may have.
 const LONGEST: usize = 4096;
 
@@ -70,74 +55,11 @@ fn settings(text: &Text, from: usize, bytes: &mut Bytes) -> Asked {
     }
 }
 
-fn readings(text: &Text, at: usize, l: Lent) -> Lending {
-    let k = tables::read_readings(text, at);
-    if k.good {
-        let x = k.readings;
-        Lending::Of(l.with_readings(x))
-    } else {
-        Lending::Not
-    }
-}
-
-fn voltages(text: &Text, at: usize, l: Lent, v: &mut Voltages) -> Lending {
-    match tables::count_numbers(text, at, false) {
-        Table::Of(n) => {
-            tables::keep_voltages(text, at, n, v);
-            Lending::Of(l.with_volts(n))
-        }
-        Table::Not => Lending::Not,
-    }
-}
-
-fn temperatures(text: &Text, at: usize, l: Lent, t: &mut Temperatures) -> Lending {
-    match tables::count_numbers(text, at, true) {
-        Table::Of(n) => {
-            tables::keep_temperatures(text, at, n, t);
-            Lending::Of(l.with_temps(n))
-        }
-        Table::Not => Lending::Not,
-    }
-}
-
-// The length of a buffer.
-fn place(x: u64) -> usize {
-    if x <= MOST { x as usize } else { 0 }
-}
-
-fn buffer(text: &Text, at: usize, l: Lent) -> Lending {
-    let f = tables::only(text, at, MOST);
-    if f.good {
-        Lending::Of(l.with_room(place(f.value)))
-    } else {
-        Lending::Not
-    }
-}
-
-// What ticks are lent after a line at a place that sets it, where `l` is what they are lent before.
-pub fn lent_by(
-    what: Lend,
-    text: &Text,
-    at: usize,
-    l: Lent,
-    v: &mut Voltages,
-    t: &mut Temperatures,
-) -> Lending {
-    let from = words::skip(text, at);
-    let past = words::end(text, from);
-    match what {
-        Lend::Readings => readings(text, past, l),
-        Lend::Voltages => voltages(text, past, l, v),
-        Lend::Temperatures => temperatures(text, past, l, t),
-        Lend::Buffer => buffer(text, past, l),
-    }
-}
-
 // The settings in use, into a buffer of a length.
 fn write(text: &Text, from: usize) -> Asked {
-    let f = tables::only(text, words::end(text, from), MOST);
+    let f = tables::only(text, words::end(text, from), lendings::MOST);
     if f.good {
-        Asked::Write(place(f.value))
+        Asked::Write(lendings::place(f.value))
     } else {
         Asked::Unknown
     }

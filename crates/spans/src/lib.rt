@@ -1,11 +1,11 @@
 // Ticks, one after the other, and the lines that say what each sent and entered, or the number of one that was refused. This crate may not know
 // how a script is written, nor any rule of the paper.
 use holders::Holder;
+use lendings::lent::Lent;
+use lendings::lent::Temperatures;
+use lendings::lent::Voltages;
 use printing::Out;
 use reports::Buffer;
-use scripts::lent::Lent;
-use scripts::lent::Temperatures;
-use scripts::lent::Voltages;
 
 fn tick(
     held: Holder,

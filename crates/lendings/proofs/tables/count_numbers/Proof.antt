@@ -1,8 +1,8 @@
--- `scripts::tables::count_numbers` is safe and ends: the entries that may still come fall. Assumes nothing.
+-- `lendings::tables::count_numbers` is safe and ends: the entries that may still come fall. Assumes nothing.
 use borrow.Author.Needs.{needs}
 use Prim.Native.Nat.{_-_}
-use Rattle.scripts.proofs.tables.count_numbers.Statement.{statement}
-use Rattle.scripts.proofs.tables.count_numbers.Tie as tie
+use Rattle.lendings.proofs.tables.count_numbers.Statement.{statement}
+use Rattle.lendings.proofs.tables.count_numbers.Tie as tie
 
 abbrev Inv-loop : tie.InvT-loop
 Inv-loop text from signed n₀ at₀ n at = Unit {0}

@@ -1,8 +1,8 @@
--- `scripts::tables::keep_voltages` is safe and ends: the entries that are left fall. Assumes nothing.
+-- `lendings::tables::keep_voltages` is safe and ends: the entries that are left fall. Assumes nothing.
 use borrow.Author.Needs.{needs}
 use Prim.Native.Nat.{_-_}
-use Rattle.scripts.proofs.tables.keep_voltages.Statement.{statement}
-use Rattle.scripts.proofs.tables.keep_voltages.Tie as tie
+use Rattle.lendings.proofs.tables.keep_voltages.Statement.{statement}
+use Rattle.lendings.proofs.tables.keep_voltages.Tie as tie
 
 abbrev Inv-loop : tie.InvT-loop
 Inv-loop text from n v₀ at₀ i₀ v at i = Unit {0}
