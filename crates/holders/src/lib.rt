@@ -1,5 +1,8 @@
 // What a replay holds from call to call, and the lines that say what a settings record, a frame or a write was answered and what it changed.
 // There may be no controller yet, which is said too. This crate may not know how a script is written, nor any rule of the paper.
+ghost use mathlib.Core.Path.{_≡_};
+ghost use Rattle.controller.specs.declared.Controller as controllers;
+ghost use Rattle.controller.specs.Frame.{afterChange};
 use broadcasts::beat::Beat;
 use controller::Change;
 use controller::Controller;
@@ -80,21 +83,27 @@ pub fn next(n: u64) -> u64 {
 }
 
 impl Framed {
-    // The session after a frame.
-    pub fn session(self, s: Session) -> Session {
+    // The session after a frame: that of the controller after the change, whatever the rest of it is.
+    pub fn session(self, s: Session) -> Session
+        ensures { λ r. ⌜ ((c : controllers.Controller) → c .session ≡ s → r ≡ afterChange c (self .change) .session) ⌝ }
+    {
         let k = self.change;
         match k {
+            Change::Nothing(_) => s,
             Change::Session(t) => t.session,
-            _ => s,
+            Change::Queries(_) => s,
         }
     }
 
-    // The waiting queries after a frame.
-    pub fn queries(self, q: Queries) -> Queries {
+    // The waiting queries after a frame, likewise.
+    pub fn queries(self, q: Queries) -> Queries
+        ensures { λ r. ⌜ ((c : controllers.Controller) → c .queries ≡ q → r ≡ afterChange c (self .change) .queries) ⌝ }
+    {
         let k = self.change;
         match k {
+            Change::Nothing(_) => q,
+            Change::Session(_) => q,
             Change::Queries(a) => a.queries,
-            _ => q,
         }
     }
 }
