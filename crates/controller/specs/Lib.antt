@@ -1,3 +1,4 @@
+pub mod With
 pub mod Start
 pub mod Frame
 pub mod Tick

@@ -19,6 +19,7 @@ use Rattle.queries.specs.Answering.{framesOf, laterOf}
 use Rattle.refusals.specs.Tick.{tickNumber}
 use Rattle.controller.specs.declared.Controller.{Controller}
 use Rattle.controller.specs.declared.Ticked.{Ticked}
+use Rattle.controller.specs.With.{withSession, withBeat, withQueries}
 
 module _ (c : Controller) (r : Readings) (v : List ℕ) (t : List ℤ) where
   -- charge frames, by the session
@@ -40,12 +41,9 @@ module _ (c : Controller) (r : Readings) (v : List ℕ) (t : List ℤ) where
   -- and the controller after it
   unfoldable pub tickNext : Controller
   tickNext =
-      record {
-        settings = c .settings;
-        session = tickOf (c .settings) r (cellsOf v t) (c .session);
-        beat = nextBeat (c .beat);
-        queries = queriesOf (laterOf v t (waiting (c .queries)));
-      }
+      withQueries
+      (withBeat (withSession c (tickOf (c .settings) r (cellsOf v t) (c .session))) (nextBeat (c .beat)))
+      (queriesOf (laterOf v t (waiting (c .queries))))
 
   -- the tick is accepted
   unfoldable pub accepted : ℕ → Bool

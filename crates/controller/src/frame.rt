@@ -1,12 +1,10 @@
 // A received frame (01, "Numbers returned", 3 to 13, in numeric order).
 ghost use mathlib.Core.Path.{_≡_};
-ghost use Rattle.controller.specs.Frame.{refused, changeNumber, afterChange, answerOf, contentTaken, chargeTo, kindOf, queryTo, messageTo, knownTo, FrameIs};
+ghost use Rattle.controller.specs.Frame.{refused, contentTaken, chargeTo, kindOf, queryTo, messageTo, FrameIs};
 use crate::Answer;
-use crate::Change;
 use crate::Controller;
 use charge_messages::Content;
 use messages::identifier::Identifier;
-use messages::received;
 use messages::received::Charge;
 use messages::received::Message;
 use messages::received::Query;
@@ -23,42 +21,36 @@ fn kind_of(q: Query) -> Kind
     }
 }
 
-impl Change {
-    // The number of a frame's answer.
-    pub fn number(self) -> u8
-        ensures { λ r. ⌜ r ≡ changeNumber self ⌝ }
-    {
-        match self {
-            Change::Nothing(n) => n,
-            Change::Session(t) => t.number,
-            Change::Queries(a) => a.number,
-        }
-    }
-}
-
 impl Controller {
-    fn refused(self, number: u8) -> Change
-        ensures { λ r. ⌜ answerOf self r ≡ refused number self ⌝ }
+    fn refused(self, number: u8) -> Answer
+        ensures { λ r. ⌜ r ≡ refused number self ⌝ }
     {
-        Change::Nothing(number)
+        Answer {
+            number: number,
+            controller: self,
+        }
     }
 
     // 10, then the session.
-    fn content_taken(self, source: u8, content: Content) -> Change
-        ensures { λ r. ⌜ answerOf self r ≡ contentTaken self source content ⌝ }
+    fn content_taken(self, source: u8, content: Content) -> Answer
+        ensures { λ r. ⌜ r ≡ contentTaken self source content ⌝ }
     {
         match content {
             Content::Allowed(m) => {
                 let s = self.session;
-                Change::Session(s.message(self.settings, source, m))
+                let t = s.message(self.settings, source, m);
+                Answer {
+                    number: t.number,
+                    controller: self.with_session(t.session),
+                }
             }
             Content::Refused(n) => self.refused(n),
         }
     }
 
     // 9, then the content.
-    fn charge_to(self, source: u8, k: Charge, bytes: &[u8]) -> Change
-        ensures { λ r. ⌜ answerOf self r ≡ chargeTo self source k (now (bytes .entry)) ⌝ }
+    fn charge_to(self, source: u8, k: Charge, bytes: &[u8]) -> Answer
+        ensures { λ r. ⌜ r ≡ chargeTo self source k (now (bytes .entry)) ⌝ }
     {
         let s = self.session;
         let state = s.state;
@@ -69,90 +61,36 @@ impl Controller {
         }
     }
 
-    fn query_to(self, source: u8, q: Query) -> Change
-        ensures { λ r. ⌜ answerOf self r ≡ queryTo self source q ⌝ }
+    // 12 and 13.
+    fn query_to(self, source: u8, q: Query) -> Answer
+        ensures { λ r. ⌜ r ≡ queryTo self source q ⌝ }
     {
         let waiting = self.queries;
-        Change::Queries(waiting.ask(source, kind_of(q)))
-    }
-
-    fn message_to(self, source: u8, m: Message, bytes: &[u8]) -> Change
-        ensures { λ r. ⌜ answerOf self r ≡ messageTo self source m (now (bytes .entry)) ⌝ }
-    {
-        match m {
-            Message::Charge(k) => self.charge_to(source, k, bytes),
-            Message::Query(q) => self.query_to(source, q),
+        let a = waiting.ask(source, kind_of(q));
+        Answer {
+            number: a.number,
+            controller: self.with_queries(a.queries),
         }
     }
 
-    // 7 and 8.
-    fn known_to(self, source: u8, known: Recognized, bytes: &[u8]) -> Change
-        ensures { λ r. ⌜ answerOf self r ≡ knownTo self source known (now (bytes .entry)) ⌝ }
+    fn message_to(self, source: u8, bytes: &[u8], known: Recognized) -> Answer
+        ensures { λ r. ⌜ r ≡ messageTo self source (now (bytes .entry)) known ⌝ }
     {
         match known {
-            Recognized::As(m) => {
-                let row = m.row();
-                if bytes.len() < row.2 as usize {
-                    self.refused(8)
-                } else {
-                    self.message_to(source, m, bytes)
-                }
-            }
+            Recognized::As(m) => match m {
+                Message::Charge(k) => self.charge_to(source, k, bytes),
+                Message::Query(q) => self.query_to(source, q),
+            },
             Recognized::Refused(n) => self.refused(n),
         }
-    }
-
-    // ENTRY POINT, in a second form: what a frame changes, for a host that holds the controller and stores no more (`after`). Any
-    // identifier, any data of any length, any controller.
-    pub fn change(self, id: u32, bytes: &[u8]) -> Change
-        ensures { λ r. ⌜ FrameIs self id (now (bytes .entry)) (answerOf self r) ⌝ }
-    {
-        if frame::not_can(id, bytes) {
-            return self.refused(3);
-        }
-        let p = Identifier::parts(id);
-        if frame::flags_set(p) {
-            return self.refused(4);
-        }
-        let own = self.settings.own;
-        if frame::not_for_us(own, p) {
-            return self.refused(5);
-        }
-        if frame::bad_source(own, p) {
-            return self.refused(6);
-        }
-        self.known_to(p.source, received::recognize(p), bytes)
-    }
-
-    // The controller after a change. A host stores what the change holds, whatever the number.
-    pub fn after(self, k: Change) -> Controller
-        ensures { λ r. ⌜ r ≡ afterChange self k ⌝ }
-    {
-        let mut c = self;
-        match k {
-            Change::Nothing(_) => {}
-            Change::Session(t) => {
-                let s = t.session;
-                c.session = s;
-            }
-            Change::Queries(a) => {
-                let q = a.queries;
-                c.queries = q;
-            }
-        }
-        c
     }
 
     // ENTRY POINT. Any identifier, any data of any length, any controller.
     pub fn frame(self, id: u32, bytes: &[u8]) -> Answer
         ensures { λ r. ⌜ FrameIs self id (now (bytes .entry)) r ⌝ }
     {
-        let k = self.change(id, bytes);
-        let number = k.number();
-        let next = self.after(k);
-        Answer {
-            number: number,
-            controller: next,
-        }
+        let known = frame::message_in(self.settings.own, id, bytes);
+        let p = Identifier::parts(id);
+        self.message_to(p.source, bytes, known)
     }
 }

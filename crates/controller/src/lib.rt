@@ -1,11 +1,11 @@
 // The controller that a railcar's host calls: four entry points, settings read and written, a received frame, a tick. It joins the
 // session with the box of broadcasts and queries beside it, neither of which reads the other, and tests all that it is handed
 // (01, "Numbers returned"). It may not know anything new: every rule stands in a crate below.
+ghost use mathlib.Core.Path.{_≡_};
+ghost use Rattle.controller.specs.With.{withSession, withBeat, withQueries};
 use broadcasts::beat::Beat;
-use queries::Asked;
 use queries::Queries;
 use session::Session;
-use session::Taken;
 use settings::Settings;
 
 pub mod frame;
@@ -19,18 +19,34 @@ pub struct Controller {
     pub queries: Queries,
 }
 
+// One part changed, and the others as they were.
+impl Controller {
+    pub fn with_session(mut self, session: Session) -> Controller
+        ensures { λ r. ⌜ r ≡ withSession self session ⌝ }
+    {
+        self.session = session;
+        self
+    }
+
+    pub fn with_beat(mut self, beat: Beat) -> Controller
+        ensures { λ r. ⌜ r ≡ withBeat self beat ⌝ }
+    {
+        self.beat = beat;
+        self
+    }
+
+    pub fn with_queries(mut self, queries: Queries) -> Controller
+        ensures { λ r. ⌜ r ≡ withQueries self queries ⌝ }
+    {
+        self.queries = queries;
+        self
+    }
+}
+
 // What a settings record gives: a fresh controller, or the number of the refusal and no controller.
 pub enum Start {
     Made(Controller),
     Refused(u8),
-}
-
-// What a received frame may change, with its number: nothing, the session, or the waiting queries. The rest of the controller stays, so
-// that a host that holds one need store no more than the case holds. It stores that whatever the number: 11 may reset the silence.
-pub enum Change {
-    Nothing(u8),
-    Session(Taken),
-    Queries(Asked),
 }
 
 // What a received frame gives: the number, and the controller as it is then.

@@ -19,23 +19,23 @@ use Rattle.cells.specs.declared.Cells.{Cells}
 use Rattle.cells.specs.Summaries.{cellsOf}
 use Rattle.charge_messages.specs.declared.ChargeMessage.{ChargeMessage}
 use Rattle.charge_messages.specs.declared.ChargeMessage.the-variants.{Cim, Cvm, Cmp, Crm, Ccs, Cst, Cem}
-use Rattle.phases.specs.declared.Phase.{Phase}
-use Rattle.phases.specs.declared.Phase.the-variants.{Drive, Rest, Hold}
-use Rattle.phases.specs.declared.Turned.{Turned}
-use Rattle.phases.specs.declared.Turned.the-variants as turned
-use Rattle.phases.specs.Phases.{lesserOf, startPhase, driveRules, holdRules, afterRest, turnedOf}
-use Rattle.states.specs.declared.State.{State}
-use Rattle.states.specs.declared.State.the-variants.{Idle, Offered, Unverified, Parameters, Ready, Charging, Stopping, Error}
-use Rattle.outcomes.specs.declared.Outcome.{Outcome}
-use Rattle.outcomes.specs.declared.Outcome.the-variants as outcome
-use Rattle.outcomes.specs.Message.{outcomeOf, inIdle, inOffered, inUnverified, inParameters, inReady, readyOf, crmOf, inCharging, inStopping, inError}
-use Rattle.turns.specs.declared.Turn.{Turn}
-use Rattle.turns.specs.declared.Turn.the-variants as turn
-use Rattle.turns.specs.Turns.{cellFull, packFull, stopOf, waitingOf, phaseOn, phaseTurn, stopsOf, chargingOf, stoppingOf, errorOf, turnOf}
+use Rattle.session_states.specs.declared.phases.Phase.{Phase}
+use Rattle.session_states.specs.declared.phases.Phase.the-variants.{Drive, Rest, Hold}
+use Rattle.session_states.specs.declared.phases.Turned.{Turned}
+use Rattle.session_states.specs.declared.phases.Turned.the-variants as turned
+use Rattle.session_states.specs.Phases.{lesserOf, startPhase, driveRules, holdRules, afterRest, turnedOf}
+use Rattle.session_states.specs.declared.states.State.{State}
+use Rattle.session_states.specs.declared.states.State.the-variants.{Idle, Offered, Unverified, Parameters, Ready, Charging, Stopping, Error}
+use Rattle.session_by_message.specs.declared.Outcome.{Outcome}
+use Rattle.session_by_message.specs.declared.Outcome.the-variants as outcome
+use Rattle.session_by_message.specs.Message.{outcomeOf, inIdle, inOffered, inUnverified, inParameters, inReady, readyOf, crmOf, inCharging, inStopping, inError}
+use Rattle.session_by_tick.specs.declared.Turn.{Turn}
+use Rattle.session_by_tick.specs.declared.Turn.the-variants as turn
+use Rattle.session_by_tick.specs.Turns.{cellFull, packFull, stopOf, waitingOf, phaseOn, phaseTurn, stopsOf, chargingOf, stoppingOf, errorOf, turnOf}
 use Rattle.session.specs.declared.Session.{Session}
 use Rattle.session.specs.Message.{sessionAfter, appliedOf, messageOf}
 use Rattle.session.specs.Tick.{turnedBy, turnIn}
-use Rattle.literal.specs.Literal.{older, grown, counted, literalIn, literalAdvance, literalTick}
+use Rattle.session_paper_counts.specs.Literal.{older, grown, counted, literalIn, literalAdvance, literalTick}
 use Rattle.controller.specs.declared.Controller.{Controller}
 use Rattle.controller.specs.declared.Answer.{Answer}
 use Rattle.controller.specs.Start.{freshOf}

@@ -18,7 +18,7 @@ use Rattle.settings.specs.declared.SettingsRead.{SettingsRead}
 use Rattle.settings.specs.declared.SettingsRead.the-variants as read
 use Rattle.settings.specs.Read.{readOf, recordNumber}
 use Rattle.settings.specs.Write.{Wrote}
-use Rattle.literal.proofs.InStep.{start-in-step}
+use Rattle.session_paper_counts.proofs.InStep.{start-in-step}
 use Rattle.controller.specs.declared.Controller.{Controller}
 use Rattle.controller.specs.declared.Answer.{Answer}
 use Rattle.controller.specs.declared.Start.{Start}

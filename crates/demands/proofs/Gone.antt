@@ -19,19 +19,19 @@ use Rattle.readings.specs.declared.Readings.{Readings}
 use Rattle.cells.specs.declared.Cells.{Cells}
 use Rattle.cells.specs.Summaries.{cellsOf}
 use Rattle.charge_messages.specs.declared.ChargeMessage.{ChargeMessage}
-use Rattle.states.specs.declared.Est.{Est}
-use Rattle.states.specs.declared.Est.the-variants.{Awaited, Fixed}
-use Rattle.states.specs.declared.State.{State}
-use Rattle.states.specs.declared.State.the-variants.{Idle, Offered, Unverified, Parameters, Ready, Charging, Stopping, Error}
-use Rattle.turns.specs.declared.Turn.{Turn}
-use Rattle.turns.specs.declared.Turn.the-variants as turn
-use Rattle.layouts.specs.Layouts.{estFrame}
+use Rattle.session_states.specs.declared.states.Est.{Est}
+use Rattle.session_states.specs.declared.states.Est.the-variants.{Awaited, Fixed}
+use Rattle.session_states.specs.declared.states.State.{State}
+use Rattle.session_states.specs.declared.states.State.the-variants.{Idle, Offered, Unverified, Parameters, Ready, Charging, Stopping, Error}
+use Rattle.session_by_tick.specs.declared.Turn.{Turn}
+use Rattle.session_by_tick.specs.declared.Turn.the-variants as turn
+use Rattle.session_frames.specs.Layouts.{estFrame}
 use Rattle.session.specs.declared.Session.{Session}
 use Rattle.session.specs.Message.{sessionAfter, appliedOf, messageOf}
 use Rattle.session.specs.Frames.{estBytes, stoppingFrames, framesIn, framesOf}
 use Rattle.session.specs.Tick.{turnedBy, turnIn, sentOf}
-use Rattle.literal.specs.Literal.{grown, counted, literalIn, literalAdvance, literalTick}
-use Rattle.outcomes.specs.Message.{outcomeOf}
+use Rattle.session_paper_counts.specs.Literal.{grown, counted, literalIn, literalAdvance, literalTick}
+use Rattle.session_by_message.specs.Message.{outcomeOf}
 use Rattle.controller.specs.declared.Controller.{Controller}
 use Rattle.controller.specs.declared.Answer.{Answer}
 use Rattle.controller.specs.Start.{freshOf}

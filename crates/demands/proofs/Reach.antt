@@ -19,13 +19,13 @@ use Rattle.cells.specs.Summaries.{cellsOf}
 use Rattle.charge_messages.specs.declared.Offer.{Offer}
 use Rattle.charge_messages.specs.declared.ChargeMessage.{ChargeMessage}
 use Rattle.charge_messages.specs.declared.ChargeMessage.the-variants.{Cim, Cvm, Cmp, Crm}
-use Rattle.states.specs.declared.State.{State}
-use Rattle.states.specs.declared.State.the-variants.{Idle, Offered, Unverified, Parameters, Ready}
-use Rattle.outcomes.specs.Offer.{stationMost}
-use Rattle.outcomes.specs.Message.{outcomeOf}
+use Rattle.session_states.specs.declared.states.State.{State}
+use Rattle.session_states.specs.declared.states.State.the-variants.{Idle, Offered, Unverified, Parameters, Ready}
+use Rattle.session_by_message.specs.Offer.{stationMost}
+use Rattle.session_by_message.specs.Message.{outcomeOf}
 use Rattle.session.specs.declared.Session.{Session}
 use Rattle.session.specs.Message.{sessionAfter, appliedOf, messageOf}
-use Rattle.literal.specs.Literal.{literalTick}
+use Rattle.session_paper_counts.specs.Literal.{literalTick}
 use Rattle.controller.specs.declared.Controller.{Controller}
 use Rattle.refusals.specs.Frame.{isIdle, listed}
 use Rattle.controller.specs.Frame.{frameTo}

@@ -13,7 +13,7 @@ use Rattle.settings.specs.Range.{within, goodStations, inRange}
 use Rattle.charge_messages.specs.declared.Offer.{Offer}
 use Rattle.charge_messages.specs.declared.ChargeMessage.the-variants.{Cim, Cvm, Cmp, Crm}
 use Rattle.charge_messages.specs.Content.{contentOf}
-use Rattle.outcomes.specs.Offer.{acceptedOf}
+use Rattle.session_by_message.specs.Offer.{acceptedOf}
 use Rattle.controller.specs.Start.{freshOf}
 use Rattle.refusals.specs.Frame.{notCan, flagsSet, notForUs, badSource, listed}
 use Rattle.demands.specs.Apart.{Event, Came, Beaten, afterAll, isQuery, queryIn, fromStation, reaches, heard}

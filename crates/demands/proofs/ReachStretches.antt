@@ -13,18 +13,18 @@ use Rattle.cells.specs.declared.Cells.{Cells}
 use Rattle.charge_messages.specs.declared.Offer.{Offer}
 use Rattle.charge_messages.specs.declared.ChargeMessage.{ChargeMessage}
 use Rattle.charge_messages.specs.declared.ChargeMessage.the-variants.{Cim, Cvm, Cmp, Crm, Ccs, Cst, Cem}
-use Rattle.phases.specs.Phases.{startPhase}
-use Rattle.states.specs.declared.State.{State}
-use Rattle.states.specs.declared.State.the-variants.{Offered, Unverified, Parameters, Ready, Charging}
-use Rattle.outcomes.specs.declared.Outcome.{Outcome}
-use Rattle.outcomes.specs.declared.Outcome.the-variants.{OutOfStep, Heard, Enter}
-use Rattle.outcomes.specs.Offer.{acceptedOf, stationMost}
-use Rattle.outcomes.specs.Message.{outcomeOf, inOffered, inUnverified, inParameters, inReady, readyOf, crmOf}
-use Rattle.turns.specs.Turns.{waitingOf, turnOf}
+use Rattle.session_states.specs.Phases.{startPhase}
+use Rattle.session_states.specs.declared.states.State.{State}
+use Rattle.session_states.specs.declared.states.State.the-variants.{Offered, Unverified, Parameters, Ready, Charging}
+use Rattle.session_by_message.specs.declared.Outcome.{Outcome}
+use Rattle.session_by_message.specs.declared.Outcome.the-variants.{OutOfStep, Heard, Enter}
+use Rattle.session_by_message.specs.Offer.{acceptedOf, stationMost}
+use Rattle.session_by_message.specs.Message.{outcomeOf, inOffered, inUnverified, inParameters, inReady, readyOf, crmOf}
+use Rattle.session_by_tick.specs.Turns.{waitingOf, turnOf}
 use Rattle.session.specs.declared.Session.{Session}
 use Rattle.session.specs.Message.{sessionAfter}
 use Rattle.session.specs.Tick.{turnedBy, turnIn}
-use Rattle.literal.specs.Literal.{grown, literalIn, literalAdvance, literalTick}
+use Rattle.session_paper_counts.specs.Literal.{grown, literalIn, literalAdvance, literalTick}
 use Rattle.refusals.specs.Frame.{isIdle}
 use Rattle.demands.specs.Reach.{chargingWith, Stretch, UntilCvm, UntilVerified, UntilCmp, UntilCrm, besides}
 

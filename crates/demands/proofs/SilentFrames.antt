@@ -9,13 +9,13 @@ use borrow.Author.Tests.{eq-eqb}
 use Rattle.settings.specs.declared.Settings.{Settings}
 use Rattle.charge_messages.specs.declared.ChargeMessage.{ChargeMessage}
 use Rattle.charge_messages.specs.declared.ChargeMessage.the-variants.{Cim, Cvm, Cmp, Crm, Ccs, Cst, Cem}
-use Rattle.phases.specs.declared.Phase.{Phase}
-use Rattle.states.specs.declared.Est.{Est}
-use Rattle.states.specs.declared.State.{State}
-use Rattle.states.specs.declared.State.the-variants.{Idle, Offered, Unverified, Parameters, Ready, Charging, Stopping, Error}
-use Rattle.outcomes.specs.declared.Outcome.{Outcome}
-use Rattle.outcomes.specs.declared.Outcome.the-variants.{Refuse}
-use Rattle.outcomes.specs.Message.{outcomeOf, inOffered, inUnverified, inParameters, inReady, readyOf, crmOf, inCharging, inStopping, inError}
+use Rattle.session_states.specs.declared.phases.Phase.{Phase}
+use Rattle.session_states.specs.declared.states.Est.{Est}
+use Rattle.session_states.specs.declared.states.State.{State}
+use Rattle.session_states.specs.declared.states.State.the-variants.{Idle, Offered, Unverified, Parameters, Ready, Charging, Stopping, Error}
+use Rattle.session_by_message.specs.declared.Outcome.{Outcome}
+use Rattle.session_by_message.specs.declared.Outcome.the-variants.{Refuse}
+use Rattle.session_by_message.specs.Message.{outcomeOf, inOffered, inUnverified, inParameters, inReady, readyOf, crmOf, inCharging, inStopping, inError}
 use Rattle.session.specs.declared.Session.{Session}
 use Rattle.session.specs.Message.{sessionAfter, appliedOf, messageOf}
 use Rattle.controller.specs.declared.Controller.{Controller}

@@ -22,13 +22,13 @@ use Rattle.cells.specs.Summaries.{cellsOf}
 use Rattle.charge_messages.specs.declared.Content.{Content}
 use Rattle.charge_messages.specs.declared.Content.the-variants as content
 use Rattle.charge_messages.specs.Content.{contentOf}
-use Rattle.states.specs.declared.State.{State}
-use Rattle.states.specs.declared.State.the-variants.{Idle, Offered, Unverified, Parameters, Ready, Charging, Stopping, Error}
+use Rattle.session_states.specs.declared.states.State.{State}
+use Rattle.session_states.specs.declared.states.State.the-variants.{Idle, Offered, Unverified, Parameters, Ready, Charging, Stopping, Error}
 use Rattle.session.specs.declared.Taken.{Taken}
 use Rattle.broadcasts.specs.Sendings.{broadcastAt}
-use Rattle.literal.specs.Folds.{folds, foldState}
-use Rattle.literal.proofs.InStep.{tick-in-step, frames-in-step}
-use Rattle.literal.proofs.Outcomes.{message-folds}
+use Rattle.session_paper_counts.specs.Folds.{folds, foldState}
+use Rattle.session_paper_counts.proofs.InStep.{tick-in-step, frames-in-step}
+use Rattle.session_paper_counts.proofs.Outcomes.{message-folds}
 use Rattle.controller.specs.declared.Controller.{Controller}
 use Rattle.controller.specs.declared.Answer.{Answer}
 use Rattle.refusals.specs.Frame.{notCan, flagsSet, notForUs, badSource, isIdle}

@@ -8,20 +8,20 @@ use Rattle.settings.specs.declared.Settings.{Settings}
 use Rattle.readings.specs.declared.Readings.{Readings}
 use Rattle.readings.specs.Readings.{wantedOf, aboveOf}
 use Rattle.cells.specs.declared.Cells.{Cells}
-use Rattle.phases.specs.declared.Phase.{Phase}
-use Rattle.phases.specs.declared.Phase.the-variants.{Drive, Rest, Hold}
-use Rattle.phases.specs.declared.Cause.the-variants.{PackVoltage, HoldCell, Other}
-use Rattle.phases.specs.declared.Turned.{Turned}
-use Rattle.phases.specs.declared.Turned.the-variants as turned
-use Rattle.phases.specs.Phases.{driveRules, holdRules, afterRest, turnedOf}
-use Rattle.states.specs.declared.State.{State}
-use Rattle.states.specs.declared.State.the-variants.{Idle, Offered, Unverified, Parameters, Ready, Charging, Stopping, Error}
-use Rattle.turns.specs.declared.Turn.{Turn}
-use Rattle.turns.specs.declared.Turn.the-variants.{On, Enter, Farewell, End}
-use Rattle.turns.specs.Turns.{cellFull, packFull, stopOf, waitingOf, phaseOn, phaseTurn, stopsOf, chargingOf, stoppingOf, errorOf, turnOf}
+use Rattle.session_states.specs.declared.phases.Phase.{Phase}
+use Rattle.session_states.specs.declared.phases.Phase.the-variants.{Drive, Rest, Hold}
+use Rattle.session_states.specs.declared.phases.Cause.the-variants.{PackVoltage, HoldCell, Other}
+use Rattle.session_states.specs.declared.phases.Turned.{Turned}
+use Rattle.session_states.specs.declared.phases.Turned.the-variants as turned
+use Rattle.session_states.specs.Phases.{driveRules, holdRules, afterRest, turnedOf}
+use Rattle.session_states.specs.declared.states.State.{State}
+use Rattle.session_states.specs.declared.states.State.the-variants.{Idle, Offered, Unverified, Parameters, Ready, Charging, Stopping, Error}
+use Rattle.session_by_tick.specs.declared.Turn.{Turn}
+use Rattle.session_by_tick.specs.declared.Turn.the-variants.{On, Enter, Farewell, End}
+use Rattle.session_by_tick.specs.Turns.{cellFull, packFull, stopOf, waitingOf, phaseOn, phaseTurn, stopsOf, chargingOf, stoppingOf, errorOf, turnOf}
 use Rattle.session.specs.declared.Session.{Session}
 use Rattle.session.specs.Tick.{turnedBy, turnIn}
-use Rattle.literal.specs.Literal.{grown, counted, literalIn, literalAdvance, literalTick}
+use Rattle.session_paper_counts.specs.Literal.{grown, counted, literalIn, literalAdvance, literalTick}
 use Rattle.demands.specs.Stops.{Why, GoesOn, Silence, Unwanted, NotWanted, CurrentAbove, PackFull, TimeUp, CellFull, Count600}
 use Rattle.demands.specs.Stops.{timeUp, inHold, whyIn, whyOf, ChargesAs, GoesOnAs, LeadsTo}
 

@@ -11,7 +11,7 @@ use Rattle.settings.specs.Read.{readOf}
 use Rattle.cells.specs.Summaries.{cellsOf}
 use Rattle.charge_messages.specs.declared.ChargeMessage.{ChargeMessage}
 use Rattle.charge_messages.specs.declared.ChargeMessage.the-variants.{Cim, Cvm, Cmp, Crm, Ccs, Cst, Cem}
-use Rattle.states.specs.declared.State.{State}
+use Rattle.session_states.specs.declared.states.State.{State}
 use Rattle.controller.specs.declared.Controller.{Controller}
 use Rattle.demands.specs.Apart.{Event, Came, Beaten, Reread, accepts, isRead}
 use Rattle.demands.specs.Kinds.{isStopping}

@@ -2,7 +2,7 @@
 -- controller of the code stands for one with the paper's counts. It is the same but for those counts.
 use Prim.Native.Nat.{_%_}
 use mathlib.Core.Path.{_≡_}
-use Rattle.literal.specs.Folds.{folds}
+use Rattle.session_paper_counts.specs.Folds.{folds}
 use Rattle.controller.specs.declared.Controller.{Controller}
 use Rattle.demands.specs.Machine.{Box, Off, On}
 

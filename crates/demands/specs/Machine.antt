@@ -14,7 +14,7 @@ use Rattle.settings.specs.Read.{recordNumber}
 use Rattle.settings.specs.Write.{writtenOf, laterOf}
 use Rattle.queries.specs.Waiting.{waiting, queriesOf}
 use Rattle.queries.specs.Answering as answering
-use Rattle.literal.specs.Literal.{literalTick}
+use Rattle.session_paper_counts.specs.Literal.{literalTick}
 use Rattle.controller.specs.declared.Controller.{Controller}
 use Rattle.controller.specs.declared.Start.{Start}
 use Rattle.controller.specs.declared.Start.the-variants.{Made, Refused}

@@ -10,7 +10,7 @@ use Rattle.messages.specs.declared.received.Recognized.the-variants.{As}
 use Rattle.messages.specs.Identifier.{partsOf}
 use Rattle.messages.specs.Received.{recognizedOf}
 use Rattle.charge_messages.specs.declared.ChargeMessage.the-variants.{Cim}
-use Rattle.states.specs.declared.State.the-variants.{Offered}
+use Rattle.session_states.specs.declared.states.State.the-variants.{Offered}
 use Rattle.session.specs.declared.Session.{Session}
 use Rattle.controller.specs.declared.Controller.{Controller}
 use Rattle.refusals.specs.Frame.{listed}

@@ -13,10 +13,10 @@ use Rattle.readings.specs.Readings.{wantedOf}
 use Rattle.charge_messages.specs.declared.Offer.{Offer}
 use Rattle.charge_messages.specs.declared.ChargeMessage.{ChargeMessage}
 use Rattle.charge_messages.specs.declared.ChargeMessage.the-variants.{Cim, Cvm, Cmp, Crm, Ccs, Cst, Cem}
-use Rattle.phases.specs.Phases.{startPhase}
-use Rattle.states.specs.declared.State.the-variants.{Charging}
-use Rattle.outcomes.specs.Offer.{acceptedOf, stationMost}
-use Rattle.outcomes.specs.Message.{goneOut}
+use Rattle.session_states.specs.Phases.{startPhase}
+use Rattle.session_states.specs.declared.states.State.the-variants.{Charging}
+use Rattle.session_by_message.specs.Offer.{acceptedOf, stationMost}
+use Rattle.session_by_message.specs.Message.{goneOut}
 use Rattle.session.specs.declared.Session.{Session}
 use Rattle.demands.specs.Apart.{Event, Came, Beaten, Wrote, Reread, accepts, isRead}
 use Rattle.demands.specs.Says.{Says}

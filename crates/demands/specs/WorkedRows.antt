@@ -13,11 +13,11 @@ use Rattle.readings.specs.declared.Readings.{Readings}
 use Rattle.readings.specs.Readings.{rawOf}
 use Rattle.cells.specs.declared.Cells.{Cells}
 use Rattle.cells.specs.Summaries.{summaryOf, averageOf}
-use Rattle.phases.specs.declared.Phase.the-variants.{Drive, Rest, Hold}
-use Rattle.phases.specs.declared.Turned.the-variants.{On}
-use Rattle.phases.specs.Phases.{startPhase, turnedOf}
-use Rattle.outcomes.specs.Offer.{tenthsOf}
-use Rattle.layouts.specs.Layouts.{holdVoltage, rawRequest, ecrFrame, ecrOf, eimOf, eemOf}
+use Rattle.session_states.specs.declared.phases.Phase.the-variants.{Drive, Rest, Hold}
+use Rattle.session_states.specs.declared.phases.Turned.the-variants.{On}
+use Rattle.session_states.specs.Phases.{startPhase, turnedOf}
+use Rattle.session_by_message.specs.Offer.{tenthsOf}
+use Rattle.session_frames.specs.Layouts.{holdVoltage, rawRequest, ecrFrame, ecrOf, eimOf, eemOf}
 use Rattle.broadcasts.specs.Layouts.{psOf}
 use Rattle.queries.specs.declared.Kind.the-variants.{Voltages, Temperatures}
 use Rattle.queries.specs.declared.Query.{Query}

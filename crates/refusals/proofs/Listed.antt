@@ -9,9 +9,9 @@ use lib.Seq.{take-nil}
 use borrow.Author.Tests.{lt-ltb}
 use types.Run.{OneOf, miss}
 use denote.Enum.Declared.{tagOf}
-use Rattle.states.proofs.State.{the-type}
-use Rattle.states.specs.declared.State.{State}
-use Rattle.states.specs.declared.State.the-variants.{Idle, Offered, Unverified, Parameters, Ready, Charging, Stopping, Error}
+use Rattle.session_states.proofs.states.State.{the-type}
+use Rattle.session_states.specs.declared.states.State.{State}
+use Rattle.session_states.specs.declared.states.State.the-variants.{Idle, Offered, Unverified, Parameters, Ready, Charging, Stopping, Error}
 use Rattle.settings.specs.declared.Stations.{Stations}
 use Rattle.refusals.specs.Frame.{listed, isIdle}
 

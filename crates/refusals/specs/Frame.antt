@@ -1,14 +1,18 @@
--- The tests of a received frame: 01, "Numbers returned", 3 to 6 and 9. Their order is in `frameTo`, crate `controller`.
+-- The checks of a received frame: 01, "Numbers returned", 3 to 8 and 9. "Checks run in numeric order within a call."
 use Prim.Native.Nat.{ℕ}
-use mathlib.Core.Bool.{Bool, true, false, not, cond, _||_}
+use mathlib.Core.Bool.{Bool, not, cond, _||_}
 use mathlib.Core.List.{List}
 use lib.Dec.{eqb, leb, ltb}
 use lib.ListN.{length}
 use Rattle.messages.specs.declared.identifier.Identifier.{Identifier}
+use Rattle.messages.specs.declared.received.Recognized.{Recognized}
+use Rattle.messages.specs.declared.received.Recognized.the-variants.{As, Refused}
+use Rattle.messages.specs.Identifier.{partsOf}
+use Rattle.messages.specs.Received.{rowOf, recognizedOf}
 use Rattle.settings.specs.declared.Stations.{Stations}
 use Rattle.settings.specs.Range.{stationList, lacks}
-use Rattle.states.specs.declared.State.{State}
-use Rattle.states.specs.declared.State.the-variants.{Idle, Offered, Unverified, Parameters, Ready, Charging, Stopping, Error}
+use Rattle.session_states.specs.declared.states.State.{State}
+use Rattle.session_states.specs.States.{isIdle}
 
 -- 3: identifier 2^29 or more, or over 8 bytes
 unfoldable pub notCan : ℕ → List ℕ → Bool
@@ -26,17 +30,21 @@ notForUs own p = leb 240 (p .pf) || not (eqb (p .ps) own)
 unfoldable pub badSource : ℕ → Identifier → Bool
 badSource own p = eqb (p .source) own || (eqb (p .source) 254 || eqb (p .source) 255)
 
--- 9: Idle: source not in the list; else: not the session's station
-unfoldable pub isIdle : State → Bool
-isIdle Idle = true
-isIdle Offered = false
-isIdle Unverified = false
-isIdle Parameters = false
-isIdle (Ready accepted most) = false
-isIdle (Charging p) = false
-isIdle (Stopping acknowledged est) = false
-isIdle Error = false
+-- 8: shorter than its least length; what 7 has refused stays refused
+unfoldable pub longEnough : List ℕ → Recognized → Recognized
+longEnough s (As m) = cond (ltb (length s) (rowOf m .2)) (Refused 8) (As m)
+longEnough s (Refused n) = Refused n
 
+-- 3 to 8, in numeric order (7, "PF not one of the nine", is `recognizedOf`): the message in a frame, or the number of the first
+-- check that refuses it. Of the controller nothing is asked but its own address
+unfoldable pub messageIn : ℕ → ℕ → List ℕ → Recognized
+messageIn own id s =
+    cond (notCan id s) (Refused 3)
+    (cond (flagsSet (partsOf id)) (Refused 4)
+    (cond (notForUs own (partsOf id)) (Refused 5)
+    (cond (badSource own (partsOf id)) (Refused 6) (longEnough s (recognizedOf (partsOf id .pf))))))
+
+-- 9: Idle: source not in the list; else: not the session's station
 unfoldable pub listed : ℕ → Stations → Bool
 listed source s = not (lacks source (stationList s))
 

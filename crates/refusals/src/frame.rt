@@ -1,45 +1,75 @@
-// The tests of a received frame (01, "Numbers returned", 3 to 6 and 9).
+// The checks of a received frame (01, "Numbers returned"): 3 to 8, which ask for nothing but our own address, and 9.
 ghost use mathlib.Core.Path.{_≡_};
-ghost use Rattle.refusals.specs.Frame.{notCan, flagsSet, notForUs, badSource, isIdle, listed, maySpeak};
+ghost use Rattle.refusals.specs.Frame.{notCan, flagsSet, notForUs, badSource, longEnough, messageIn, listed, maySpeak};
 use messages::identifier::Identifier;
+use messages::received;
+use messages::received::Recognized;
+use session_states::states::State;
 use settings::Stations;
-use states::State;
 
 // 3: no identifier or length of CAN.
-pub fn not_can(id: u32, bytes: &[u8]) -> bool
+fn not_can(id: u32, bytes: &[u8]) -> bool
     ensures { λ r. ⌜ r ≡ notCan id (now (bytes .entry)) ⌝ }
 {
     (0x2000_0000 <= id) | (8 < bytes.len())
 }
 
 // 4: reserved or data page set.
-pub fn flags_set(p: Identifier) -> bool
+fn flags_set(p: Identifier) -> bool
     ensures { λ r. ⌜ r ≡ flagsSet p ⌝ }
 {
     (p.reserved == 1) | (p.page == 1)
 }
 
 // 5: a broadcast, or for another target.
-pub fn not_for_us(own: u8, p: Identifier) -> bool
+fn not_for_us(own: u8, p: Identifier) -> bool
     ensures { λ r. ⌜ r ≡ notForUs own p ⌝ }
 {
     (240 <= p.pf) | (p.ps != own)
 }
 
 // 6: a source that no other node may have.
-pub fn bad_source(own: u8, p: Identifier) -> bool
+fn bad_source(own: u8, p: Identifier) -> bool
     ensures { λ r. ⌜ r ≡ badSource own p ⌝ }
 {
     (p.source == own) | ((p.source == 254) | (p.source == 255))
 }
 
-fn is_idle(state: State) -> bool
-    ensures { λ r. ⌜ r ≡ isIdle state ⌝ }
+// 8: shorter than its least length.
+fn long_enough(bytes: &[u8], known: Recognized) -> Recognized
+    ensures { λ r. ⌜ r ≡ longEnough (now (bytes .entry)) known ⌝ }
 {
-    match state {
-        State::Idle => true,
-        _ => false,
+    match known {
+        Recognized::As(m) => {
+            let row = m.row();
+            if bytes.len() < row.2 as usize {
+                Recognized::Refused(8)
+            } else {
+                Recognized::As(m)
+            }
+        }
+        Recognized::Refused(n) => Recognized::Refused(n),
     }
+}
+
+// 3 to 8, in numeric order: the message in a frame, or the number of the first check that refuses it.
+pub fn message_in(own: u8, id: u32, bytes: &[u8]) -> Recognized
+    ensures { λ r. ⌜ r ≡ messageIn own id (now (bytes .entry)) ⌝ }
+{
+    if not_can(id, bytes) {
+        return Recognized::Refused(3);
+    }
+    let p = Identifier::parts(id);
+    if flags_set(p) {
+        return Recognized::Refused(4);
+    }
+    if not_for_us(own, p) {
+        return Recognized::Refused(5);
+    }
+    if bad_source(own, p) {
+        return Recognized::Refused(6);
+    }
+    long_enough(bytes, received::recognize(p))
 }
 
 // A station of the list.
@@ -56,7 +86,7 @@ fn is_listed(source: u8, s: Stations) -> bool
 pub fn may_speak(state: State, station: u8, s: Stations, source: u8) -> bool
     ensures { λ r. ⌜ r ≡ maySpeak state station s source ⌝ }
 {
-    if is_idle(state) {
+    if state.is_idle() {
         is_listed(source, s)
     } else {
         source == station

@@ -11,17 +11,17 @@ use Rattle.readings.specs.declared.Readings.{Readings}
 use Rattle.readings.specs.Readings.{wantedOf, aboveOf}
 use Rattle.cells.specs.declared.Cells.{Cells}
 use Rattle.cells.specs.Glance.{SameGlance}
-use Rattle.phases.specs.declared.Phase.{Phase}
-use Rattle.phases.specs.declared.Phase.the-variants.{Drive, Rest, Hold}
-use Rattle.phases.specs.declared.Turned.{Turned}
-use Rattle.phases.specs.declared.Turned.the-variants as turned
-use Rattle.phases.specs.Phases.{turnedOf}
-use Rattle.states.specs.declared.State.{State}
-use Rattle.states.specs.declared.State.the-variants.{Idle, Offered, Unverified, Parameters, Ready, Charging, Stopping, Error}
-use Rattle.states.proofs.State.{the-type}
-use Rattle.turns.specs.declared.Turn.the-variants.{On}
-use Rattle.turns.specs.Turns.{cellFull, packFull, stopOf, phaseOn, chargingOf, turnOf}
-use Rattle.layouts.specs.Layouts.{holdVoltage, ecrOf}
+use Rattle.session_states.specs.declared.phases.Phase.{Phase}
+use Rattle.session_states.specs.declared.phases.Phase.the-variants.{Drive, Rest, Hold}
+use Rattle.session_states.specs.declared.phases.Turned.{Turned}
+use Rattle.session_states.specs.declared.phases.Turned.the-variants as turned
+use Rattle.session_states.specs.Phases.{turnedOf}
+use Rattle.session_states.specs.declared.states.State.{State}
+use Rattle.session_states.specs.declared.states.State.the-variants.{Idle, Offered, Unverified, Parameters, Ready, Charging, Stopping, Error}
+use Rattle.session_states.proofs.states.State.{the-type}
+use Rattle.session_by_tick.specs.declared.Turn.the-variants.{On}
+use Rattle.session_by_tick.specs.Turns.{cellFull, packFull, stopOf, phaseOn, chargingOf, turnOf}
+use Rattle.session_frames.specs.Layouts.{holdVoltage, ecrOf}
 use Rattle.session.specs.declared.Session.{Session}
 use Rattle.session.specs.Frames.{isFifth, each5, chargingFrames, framesIn, framesOf}
 use Rattle.session.specs.Reads.{staysIn, goesOn, chargingCloser, closerIn, looksCloser}

@@ -8,16 +8,16 @@ use Rattle.settings.specs.declared.Settings.{Settings}
 use Rattle.readings.specs.declared.Readings.{Readings}
 use Rattle.readings.specs.Readings.{wantedOf, aboveOf}
 use Rattle.cells.specs.declared.Cells.{Cells}
-use Rattle.phases.specs.declared.Phase.{Phase}
-use Rattle.phases.specs.declared.Phase.the-variants.{Drive, Rest, Hold}
-use Rattle.phases.specs.declared.Cause.the-variants.{PackVoltage, HoldCell, Other}
-use Rattle.phases.specs.declared.Turned.{Turned}
-use Rattle.phases.specs.declared.Turned.the-variants as turned
-use Rattle.phases.specs.Phases.{driveRules, holdRules, afterRest, turnedOf}
-use Rattle.states.specs.declared.State.the-variants.{Error}
-use Rattle.turns.specs.declared.Turn.{Turn}
-use Rattle.turns.specs.declared.Turn.the-variants.{Enter}
-use Rattle.turns.specs.Turns.{cellFull, packFull, stopOf, phaseOn, phaseTurn, stopsOf, chargingOf}
+use Rattle.session_states.specs.declared.phases.Phase.{Phase}
+use Rattle.session_states.specs.declared.phases.Phase.the-variants.{Drive, Rest, Hold}
+use Rattle.session_states.specs.declared.phases.Cause.the-variants.{PackVoltage, HoldCell, Other}
+use Rattle.session_states.specs.declared.phases.Turned.{Turned}
+use Rattle.session_states.specs.declared.phases.Turned.the-variants as turned
+use Rattle.session_states.specs.Phases.{driveRules, holdRules, afterRest, turnedOf}
+use Rattle.session_states.specs.declared.states.State.the-variants.{Error}
+use Rattle.session_by_tick.specs.declared.Turn.{Turn}
+use Rattle.session_by_tick.specs.declared.Turn.the-variants.{Enter}
+use Rattle.session_by_tick.specs.Turns.{cellFull, packFull, stopOf, phaseOn, phaseTurn, stopsOf, chargingOf}
 use Rattle.session.specs.Reads.{isOn, phaseGoesOn, staysIn, goesOn}
 
 opposite : (a b : ℕ) (late : Bool) → leb b a ≡ late → ltb a b ≡ not late

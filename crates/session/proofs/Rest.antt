@@ -4,12 +4,12 @@ use mathlib.Core.List.{[], _∷_}
 use Prim.Native.Nat.{ℕ}
 use types.Run.{OneOf, miss}
 use denote.Enum.Declared.{tagOf}
-use Rattle.turns.proofs.Turn.{the-type}
+use Rattle.session_by_tick.proofs.Turn.{the-type}
 use Rattle.settings.specs.declared.Settings.{Settings}
 use Rattle.readings.specs.declared.Readings.{Readings}
 use Rattle.cells.specs.declared.Cells.{Cells}
-use Rattle.turns.specs.declared.Turn.{Turn}
-use Rattle.turns.specs.declared.Turn.the-variants.{On, Enter, Farewell, End}
+use Rattle.session_by_tick.specs.declared.Turn.{Turn}
+use Rattle.session_by_tick.specs.declared.Turn.the-variants.{On, Enter, Farewell, End}
 use Rattle.session.specs.declared.Session.{Session}
 use Rattle.session.specs.Frames.{framesIn, framesOf}
 

@@ -11,14 +11,14 @@ use Rattle.settings.specs.declared.Settings.{Settings}
 use Rattle.readings.specs.declared.Readings.{Readings}
 use Rattle.readings.specs.Readings.{wantedOf}
 use Rattle.cells.specs.declared.Cells.{Cells}
-use Rattle.states.specs.declared.Est.{Est}
-use Rattle.states.specs.declared.Est.the-variants.{Awaited, Fixed}
-use Rattle.states.specs.declared.State.{State}
-use Rattle.states.specs.declared.State.the-variants.{Idle, Offered, Unverified, Parameters, Ready, Charging, Stopping, Error}
-use Rattle.states.proofs.State.{the-type}
-use Rattle.turns.specs.declared.Turn.{Turn}
-use Rattle.turns.specs.declared.Turn.the-variants.{On, Enter, Farewell, End}
-use Rattle.turns.specs.Turns.{waitingOf, errorOf, estThen, stoppingOf, turnOf}
+use Rattle.session_states.specs.declared.states.Est.{Est}
+use Rattle.session_states.specs.declared.states.Est.the-variants.{Awaited, Fixed}
+use Rattle.session_states.specs.declared.states.State.{State}
+use Rattle.session_states.specs.declared.states.State.the-variants.{Idle, Offered, Unverified, Parameters, Ready, Charging, Stopping, Error}
+use Rattle.session_states.proofs.states.State.{the-type}
+use Rattle.session_by_tick.specs.declared.Turn.{Turn}
+use Rattle.session_by_tick.specs.declared.Turn.the-variants.{On, Enter, Farewell, End}
+use Rattle.session_by_tick.specs.Turns.{waitingOf, errorOf, estThen, stoppingOf, turnOf}
 use Rattle.session.specs.declared.Session.{Session}
 use Rattle.session.specs.Frames.{isFifth, each5, parametersFrames, stoppingFrames, framesIn, framesOf}
 use Rattle.session.specs.Reads.{stoppingReads, readsCells}

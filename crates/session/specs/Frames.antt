@@ -8,14 +8,14 @@ use Rattle.frames.specs.declared.Frame.{Frame}
 use Rattle.settings.specs.declared.Settings.{Settings}
 use Rattle.readings.specs.declared.Readings.{Readings}
 use Rattle.cells.specs.declared.Cells.{Cells}
-use Rattle.phases.specs.declared.Phase.{Phase}
-use Rattle.states.specs.declared.Est.{Est}
-use Rattle.states.specs.declared.Est.the-variants.{Awaited, Fixed}
-use Rattle.states.specs.declared.State.{State}
-use Rattle.states.specs.declared.State.the-variants.{Idle, Offered, Unverified, Parameters, Ready, Charging, Stopping, Error}
-use Rattle.turns.specs.declared.Turn.{Turn}
-use Rattle.turns.specs.declared.Turn.the-variants.{On, Enter, Farewell, End}
-use Rattle.layouts.specs.Layouts.{eimOf, evmOf, ecpOf, ermOf, ecrOf, ecsOf, esmOf, estFrame, edmOf, eemOf}
+use Rattle.session_states.specs.declared.phases.Phase.{Phase}
+use Rattle.session_states.specs.declared.states.Est.{Est}
+use Rattle.session_states.specs.declared.states.Est.the-variants.{Awaited, Fixed}
+use Rattle.session_states.specs.declared.states.State.{State}
+use Rattle.session_states.specs.declared.states.State.the-variants.{Idle, Offered, Unverified, Parameters, Ready, Charging, Stopping, Error}
+use Rattle.session_by_tick.specs.declared.Turn.{Turn}
+use Rattle.session_by_tick.specs.declared.Turn.the-variants.{On, Enter, Farewell, End}
+use Rattle.session_frames.specs.Layouts.{eimOf, evmOf, ecpOf, ermOf, ecrOf, ecsOf, esmOf, estFrame, edmOf, eemOf}
 use Rattle.session.specs.declared.Session.{Session}
 use Rattle.session.specs.declared.ChargeFrames.{ChargeFrames}
 

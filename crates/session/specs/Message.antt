@@ -2,10 +2,10 @@
 use Prim.Native.Nat.{ℕ}
 use Rattle.settings.specs.declared.Settings.{Settings}
 use Rattle.charge_messages.specs.declared.ChargeMessage.{ChargeMessage}
-use Rattle.states.specs.declared.State.the-variants.{Idle, Offered}
-use Rattle.outcomes.specs.declared.Outcome.{Outcome}
-use Rattle.outcomes.specs.declared.Outcome.the-variants.{Refuse, OutOfStep, Open, Heard, Enter, Keep, End}
-use Rattle.outcomes.specs.Message.{outcomeOf, outcomeNumber}
+use Rattle.session_states.specs.declared.states.State.the-variants.{Idle, Offered}
+use Rattle.session_by_message.specs.declared.Outcome.{Outcome}
+use Rattle.session_by_message.specs.declared.Outcome.the-variants.{Refuse, OutOfStep, Open, Heard, Enter, Keep, End}
+use Rattle.session_by_message.specs.Message.{outcomeOf, outcomeNumber}
 use Rattle.session.specs.declared.Session.{Session}
 use Rattle.session.specs.declared.Taken.{Taken}
 

@@ -3,9 +3,9 @@
 ghost use mathlib.Core.Path.{_≡_};
 ghost use Rattle.session.specs.Tick.{turnedBy, waitedOf, endedOf, advanceIn, advanceOf, silenceOf};
 use crate::Session;
-use phases::Phase;
-use states::State;
-use turns::Turn;
+use session_states::phases::Phase;
+use session_states::states::State;
+use session_by_tick::Turn;
 
 pub fn turned(s: Session, t: Turn) -> Session
     ensures { λ r. ⌜ r ≡ turnedBy s t ⌝ }
@@ -43,7 +43,7 @@ fn waited(s: Session, top: u16, back: u16, state: State) -> Session
     ensures { λ r. ⌜ r ≡ waitedOf s top back state ⌝ }
 {
     let silence = silence_next(s.silence);
-    let count = phases::next_count(top, back, s.count);
+    let count = session_states::phases::next_count(top, back, s.count);
     Session {
         station: s.station,
         silence: silence,
@@ -56,7 +56,7 @@ fn waited(s: Session, top: u16, back: u16, state: State) -> Session
 fn ended(s: Session, state: State) -> Session
     ensures { λ r. ⌜ r ≡ endedOf s state ⌝ }
 {
-    let count = phases::next_count(604, 600, s.count);
+    let count = session_states::phases::next_count(604, 600, s.count);
     Session {
         station: s.station,
         silence: s.silence,

@@ -7,12 +7,12 @@ use crate::ChargeFrames;
 use crate::Session;
 use cells::Cells;
 use frames::Frame;
-use phases::Phase;
+use session_states::phases::Phase;
 use readings::Readings;
 use settings::Settings;
-use states::Est;
-use states::State;
-use turns::Turn;
+use session_states::states::Est;
+use session_states::states::State;
+use session_by_tick::Turn;
 
 fn nothing() -> Frame {
     Frame {
@@ -83,9 +83,9 @@ fn parameters(x: Settings, r: Readings, station: u8, count: u16) -> ChargeFrames
     ensures { λ fs. ⌜ frameList fs ≡ parametersFrames x r station count ⌝ }
 {
     if count == 0 {
-        one(layouts::evm(x, station, r, true))
+        one(session_frames::evm(x, station, r, true))
     } else if count % 10 == 5 {
-        one(layouts::ecp(x, station))
+        one(session_frames::ecp(x, station))
     } else {
         none()
     }
@@ -94,10 +94,10 @@ fn parameters(x: Settings, r: Readings, station: u8, count: u16) -> ChargeFrames
 fn charging(x: Settings, r: Readings, c: Cells, station: u8, count: u16, p: Phase) -> ChargeFrames
     ensures { λ fs. ⌜ frameList fs ≡ chargingFrames x r c station count p ⌝ }
 {
-    let ecr = layouts::ecr(x, station, c, p);
+    let ecr = session_frames::ecr(x, station, c, p);
     if is_fifth(count) {
-        let ecs = layouts::ecs(x, station, r, c);
-        let esm = layouts::esm(x, station, c);
+        let ecs = session_frames::ecs(x, station, r, c);
+        let esm = session_frames::esm(x, station, c);
         three(ecr, ecs, esm)
     } else {
         one(ecr)
@@ -108,8 +108,8 @@ fn est_frame(x: Settings, station: u8, acknowledged: bool, est: Est) -> Frame
     ensures { λ f. ⌜ f ≡ estBytes x station acknowledged est ⌝ }
 {
     match est {
-        Est::Awaited => layouts::est(x, station, 0, 0, acknowledged),
-        Est::Fixed(first, second) => layouts::est(x, station, first, second, acknowledged),
+        Est::Awaited => session_frames::est(x, station, 0, 0, acknowledged),
+        Est::Fixed(first, second) => session_frames::est(x, station, first, second, acknowledged),
     }
 }
 
@@ -126,7 +126,7 @@ fn stopping(
 {
     let f = est_frame(x, station, acknowledged, est);
     if is_fifth(count) {
-        two(f, layouts::edm(x, station, r, c))
+        two(f, session_frames::edm(x, station, r, c))
     } else {
         one(f)
     }
@@ -145,17 +145,17 @@ fn in_state(
 {
     match state {
         State::Idle => none(),
-        State::Offered => one_each_5(count, layouts::eim(x, station, true)),
-        State::Unverified => one_each_5(count, layouts::evm(x, station, r, false)),
+        State::Offered => one_each_5(count, session_frames::eim(x, station, true)),
+        State::Unverified => one_each_5(count, session_frames::evm(x, station, r, false)),
         State::Parameters => parameters(x, r, station, count),
         State::Ready { accepted, most: _ } => {
-            one_each_5(count, layouts::erm(x, station, accepted))
+            one_each_5(count, session_frames::erm(x, station, accepted))
         }
         State::Charging(p) => charging(x, r, c, station, count, p),
         State::Stopping { acknowledged, est } => {
             stopping(x, r, c, station, count, acknowledged, est)
         }
-        State::Error => one_each_5(count, layouts::eem(x, station)),
+        State::Error => one_each_5(count, session_frames::eem(x, station)),
     }
 }
 
@@ -164,7 +164,7 @@ pub fn sent(x: Settings, r: Readings, c: Cells, station: u8, t: Turn, s: Session
     ensures { λ fs. ⌜ frameList fs ≡ framesOf x r c station t s ⌝ }
 {
     if let Turn::Farewell = t {
-        one(layouts::eim(x, station, false))
+        one(session_frames::eim(x, station, false))
     } else {
         let state = s.state;
         in_state(x, r, c, s.station, s.count, state)

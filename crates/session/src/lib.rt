@@ -10,7 +10,7 @@ use charge_messages::ChargeMessage;
 use frames::Frame;
 use readings::Readings;
 use settings::Settings;
-use states::State;
+use session_states::states::State;
 
 pub mod counts;
 pub mod due;
@@ -62,7 +62,7 @@ impl Session {
         ensures { λ r. ⌜ r ≡ messageOf x source self m ⌝ }
     {
         let state = self.state;
-        let o = outcomes::message::outcome(x, state, self.count, m);
+        let o = session_by_message::message::outcome(x, state, self.count, m);
         outcome::applied(self, source, o)
     }
 
@@ -72,7 +72,7 @@ impl Session {
         ensures sent { λ t. ⌜ frameList (t .frames) ≡ sentOf x r c self ⌝ }
     {
         let state = self.state;
-        let t = turns::turn_of(x, r, c, state, self.count, self.silence);
+        let t = session_by_tick::turn_of(x, r, c, state, self.count, self.silence);
         let turned = counts::turned(self, t);
         let sent = due::sent(x, r, c, self.station, t, turned);
         let next = counts::advance(turned);

@@ -3,8 +3,8 @@ ghost use mathlib.Core.Path.{_≡_};
 ghost use Rattle.session.specs.Message.{appliedOf};
 use crate::Session;
 use crate::Taken;
-use outcomes::Outcome;
-use states::State;
+use session_by_message::Outcome;
+use session_states::states::State;
 
 // An answer with the silence count at 0.
 fn heard(number: u8, station: u8, count: u16, state: State) -> Taken

@@ -1,16 +1,16 @@
 // Whether a tick looks at the cells, and whether closer than at their number and the highest voltage, so that a caller need not work out
 // figures that nothing reads.
 ghost use mathlib.Core.Path.{_≡_};
-ghost use Rattle.phases.specs.Phases.{afterRest};
+ghost use Rattle.session_states.specs.Phases.{afterRest};
 ghost use Rattle.session.specs.Reads.{stoppingReads, readsCells, isOn, phaseGoesOn, goesOn, chargingCloser, looksCloser};
 use crate::Session;
 use crate::due;
 use cells::Cells;
-use phases::Phase;
+use session_states::phases::Phase;
 use readings::Readings;
 use settings::Settings;
-use states::Est;
-use states::State;
+use session_states::states::Est;
+use session_states::states::State;
 
 fn stopping(count: u16, est: Est) -> bool
     ensures { λ r. ⌜ r ≡ stoppingReads count est ⌝ }
@@ -58,8 +58,8 @@ fn goes_on(x: Settings, r: Readings, c: Cells, silence: u8, p: Phase) -> bool
 {
     let wanted = r.wanted();
     let above = r.current_above(x.current);
-    let pack = turns::pack_full(x, r);
-    let phase = phase_goes_on(p, turns::cell_full(x, c));
+    let pack = session_by_tick::pack_full(x, r);
+    let phase = phase_goes_on(p, session_by_tick::cell_full(x, c));
     (silence < 200) & (wanted & (!above & (!pack & phase)))
 }
 

@@ -1,0 +1,36 @@
+-- Rows of 01, "Worked rows", marked P, that are about what ECR asks. Assumes nothing.
+use mathlib.Core.Path.{_≡_, refl}
+use mathlib.Core.Bool.{Bool}
+use Rattle.messages.specs.Identifier.{numberOf}
+use Rattle.settings.specs.declared.Settings.{Settings}
+use Rattle.cells.specs.declared.Cells.{Cells}
+use Rattle.session_frames.specs.Layouts.{holdVoltage, rawRequest, eimOf, eemOf}
+
+-- maximum pack voltage 65535: 48 cells hold at 1704; 3 at 106
+module _ (x : Settings) (c : Cells) (pack : x .pack .0 ≡ 65535) where
+  pub forty-eight-hold : c .volts .count ≡ 48 → holdVoltage x c ≡ 1704
+  unfolding holdVoltage
+  forty-eight-hold n = rw (pack, n)
+
+  pub three-hold : c .volts .count ≡ 3 → holdVoltage x c ≡ 106
+  unfolding holdVoltage
+  three-hold n = rw (pack, n)
+
+-- 200.0 A is raw 2000; 1.2 A is 3988
+pub raw-of-2000 : rawRequest 2000 ≡ 2000
+unfolding rawRequest
+raw-of-2000 = refl
+
+pub raw-of-12 : rawRequest 12 ≡ 3988
+unfolding rawRequest
+raw-of-12 = refl
+
+-- EIM from F4 to 56 is 182756F4, and EEM is 081E56F4
+module _ (x : Settings) (own : x .own ≡ 0xf4) where
+  pub eim-goes-out : (on : Bool) → eimOf x 0x56 on .id ≡ 0x1827_56f4
+  unfolding eimOf numberOf
+  eim-goes-out on = rw own
+
+  pub eem-goes-out : eemOf x 0x56 .id ≡ 0x081e_56f4
+  unfolding eemOf numberOf
+  eem-goes-out = rw own

@@ -1,0 +1,52 @@
+-- `session_frames::ecs` meets its contract, byte by byte. Assumes nothing.
+use mathlib.Core.Path.{_∙_}
+use Rattle.session_frames.specs.Layouts.{ecsOf}
+use borrow.Author.Needs.{needs}
+use Rattle.session_frames.proofs.ecs.Statement.{statement}
+use Rattle.session_frames.proofs.ecs.Tie as tie
+
+raw-current-requires : tie.Need-raw-current-requires
+raw-current-requires c κs = search needs
+
+ecs-requires : tie.Need-ecs-requires
+ecs-requires c κs = search needs
+
+cast-t11 : tie.Need-cast-t11
+cast-t11 c = search needs
+
+top-requires : tie.Need-top-requires
+top-requires c κs = search needs
+
+cast-t14 : tie.Need-cast-t14
+cast-t14 c = search needs
+
+top-requires-2 : tie.Need-top-requires-2
+top-requires-2 c κs = search needs
+
+cast-t17 : tie.Need-cast-t17
+cast-t17 c = search needs
+
+top-requires-3 : tie.Need-top-requires-3
+top-requires-3 c κs = search needs
+
+new-requires : tie.Need-new-requires
+new-requires c κs = search needs
+
+returns : tie.Need-returns
+unfolding ecsOf
+returns c = c .new .ensures ∙ rw (c .before .before .before .before .ecs .ensures, c .before .before .before .top .ensures, c .before .before .top2 .ensures, c .before .top3 .ensures, c .before .before .before .before .before .raw-current .ensures)
+
+pub ecs-spec : {M : Type 1} → statement M
+ecs-spec =
+    tie.close
+    (tie.spec
+    raw-current-requires
+    ecs-requires
+    cast-t11
+    top-requires
+    cast-t14
+    top-requires-2
+    cast-t17
+    top-requires-3
+    new-requires
+    returns)

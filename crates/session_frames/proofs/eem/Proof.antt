@@ -1,0 +1,19 @@
+-- `session_frames::eem` meets its contract, byte by byte. Assumes nothing.
+use mathlib.Core.Path.{_∙_}
+use Rattle.session_frames.specs.Layouts.{eemOf}
+use borrow.Author.Needs.{needs}
+use Rattle.session_frames.proofs.eem.Statement.{statement}
+use Rattle.session_frames.proofs.eem.Tie as tie
+
+eem-requires : tie.Need-eem-requires
+eem-requires c κs = search needs
+
+new-requires : tie.Need-new-requires
+new-requires c κs = search needs
+
+returns : tie.Need-returns
+unfolding eemOf
+returns c = c .new .ensures ∙ rw (c .before .eem .ensures)
+
+pub eem-spec : {M : Type 1} → statement M
+eem-spec = tie.close (tie.spec eem-requires new-requires returns)

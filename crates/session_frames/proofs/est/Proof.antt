@@ -1,0 +1,22 @@
+-- `session_frames::est` meets its contract, byte by byte. Assumes nothing.
+use mathlib.Core.Path.{_∙_}
+use Rattle.session_frames.specs.Layouts.{estFrame}
+use borrow.Author.Needs.{needs}
+use Rattle.session_frames.proofs.est.Statement.{statement}
+use Rattle.session_frames.proofs.est.Tie as tie
+
+mark-requires : tie.Need-mark-requires
+mark-requires c κs = search needs
+
+est-requires : tie.Need-est-requires
+est-requires c κs = search needs
+
+new-requires : tie.Need-new-requires
+new-requires c κs = search needs
+
+returns : tie.Need-returns
+unfolding estFrame
+returns c = c .new .ensures ∙ rw (c .before .est .ensures, c .before .before .mark .ensures)
+
+pub est-spec : {M : Type 1} → statement M
+est-spec = tie.close (tie.spec mark-requires est-requires new-requires returns)

@@ -1,0 +1,103 @@
+-- The ten frames to the station (01, "Session by tick", "Layouts"), each from us to the station with its row of the table. Words are little
+-- endian; every frame has 8 data bytes, zero after its fields.
+use Prim.Native.Nat.{ℕ, _-_, _*_, _/_, _%_}
+use mathlib.Core.Bool.{Bool, cond}
+use mathlib.Core.List.{[], _∷_, _++_}
+use lib.Dec.{leb}
+use Rattle.buffers.specs.Words.{wordBytes}
+use Rattle.messages.specs.Table.{EIM, EVM, ECP, ERM, ECR, ECS, ESM, EST, EDM, EEM}
+use Rattle.frames.specs.declared.Frame.{Frame}
+use Rattle.frames.specs.Frame.{frameOf}
+use Rattle.settings.specs.declared.Settings.{Settings}
+use Rattle.readings.specs.declared.Readings.{Readings}
+use Rattle.readings.specs.Readings.{rawOf}
+use Rattle.cells.specs.declared.Cells.{Cells}
+use Rattle.cells.specs.Sent.{indexByte}
+use Rattle.session_states.specs.declared.phases.Phase.{Phase}
+use Rattle.session_states.specs.declared.phases.Phase.the-variants.{Drive, Rest, Hold}
+
+-- AA or 00
+abbrev pub markOf : Bool → ℕ
+markOf on = cond on 0xaa 0x00
+
+-- a temperature as it is sent, in its byte: it is below 256
+abbrev pub byteOf : ℕ → ℕ
+byteOf n = n % 256
+
+-- EIM each 5 (maximum pack voltage, AA); one EIM 00
+unfoldable pub eimOf : Settings → ℕ → Bool → Frame
+eimOf x station on =
+    frameOf EIM station (x .own) (wordBytes (x .pack .0) ++ (markOf on ∷ 0 ∷ 0 ∷ 0 ∷ 0 ∷ 0 ∷ []))
+
+-- EVM 45 50 53, 00 (Unverified) or AA, capacity, pack voltage
+unfoldable pub evmOf : Settings → ℕ → Readings → Bool → Frame
+evmOf x station r verified =
+    frameOf EVM station (x .own)
+    (0x45 ∷ 0x50 ∷ 0x53 ∷ markOf verified ∷ (wordBytes (r .capacity) ++ wordBytes (r .pack .0)))
+
+-- ECP settings 2, 3, 4, 5
+unfoldable pub ecpOf : Settings → ℕ → Frame
+ecpOf x station =
+    frameOf ECP station (x .own)
+    (wordBytes (x .cell .0) ++ (wordBytes (x .current) ++ (wordBytes (x .pack .0) ++ wordBytes (x .temperature))))
+
+-- ERM AA or 00
+unfoldable pub ermOf : Settings → ℕ → Bool → Frame
+ermOf x station accepted = frameOf ERM station (x .own) (markOf accepted ∷ 0 ∷ 0 ∷ 0 ∷ 0 ∷ 0 ∷ 0 ∷ 0 ∷ [])
+
+-- Hold voltage is the smaller of 355 x cells / 10, rounded down, and maximum pack voltage
+unfoldable pub holdVoltage : Settings → Cells → ℕ
+holdVoltage x c = cond (leb (355 * c .volts .count / 10) (x .pack .0)) (355 * c .volts .count / 10) (x .pack .0)
+
+-- a request in tenths is sent as 4000 minus it (a request is never above 4000)
+unfoldable pub rawRequest : ℕ → ℕ
+rawRequest request = 4000 - request
+
+-- ECR voltage, raw current, mode
+unfoldable pub ecrFrame : Settings → ℕ → ℕ → ℕ → ℕ → Frame
+ecrFrame x station v i mode =
+    frameOf ECR station (x .own) (wordBytes v ++ (wordBytes i ++ (mode ∷ 0 ∷ 0 ∷ 0 ∷ [])))
+
+-- mode 02 current, voltage 0; 01 voltage, raw current 4000. Drive asks R, Rest 0 A
+unfoldable pub ecrOf : Settings → ℕ → Cells → Phase → Frame
+ecrOf x station c (Drive request cycle time) = ecrFrame x station 0 (rawRequest request) 0x02
+ecrOf x station c (Rest request cycle time) = ecrFrame x station 0 4000 0x02
+ecrOf x station c (Hold time) = ecrFrame x station (holdVoltage x c) 4000 0x01
+
+-- ECS pack voltage, raw current, highest cell voltage, SOC
+unfoldable pub ecsOf : Settings → ℕ → Readings → Cells → Frame
+ecsOf x station r c =
+    frameOf ECS station (x .own)
+    (wordBytes (r .pack .0) ++ (wordBytes (rawOf (r .current)) ++ (wordBytes (c .volts .highest .value) ++ (r .soc ∷ 0 ∷ []))))
+
+-- ESM highest voltage index, highest temperature and index, lowest and index, 01
+unfoldable pub esmOf : Settings → ℕ → Cells → Frame
+esmOf x station c =
+    frameOf ESM station (x .own)
+    (indexByte (c .volts .highest .index)
+    ∷ byteOf (c .heat .highest .value)
+    ∷ indexByte (c .heat .highest .index)
+    ∷ byteOf (c .heat .lowest .value)
+    ∷ indexByte (c .heat .lowest .index)
+    ∷ 0x01
+    ∷ 0
+    ∷ 0
+    ∷ [])
+
+-- EST bytes 1 and 2, and byte 3 AA if acknowledged, else 00
+unfoldable pub estFrame : Settings → ℕ → ℕ → ℕ → Bool → Frame
+estFrame x station first second acknowledged =
+    frameOf EST station (x .own) (first ∷ second ∷ markOf acknowledged ∷ 0 ∷ 0 ∷ 0 ∷ 0 ∷ 0 ∷ [])
+
+-- EDM SOC, lowest and highest cell voltage, lowest and highest temperature
+unfoldable pub edmOf : Settings → ℕ → Readings → Cells → Frame
+edmOf x station r c =
+    frameOf EDM station (x .own)
+    (r .soc
+    ∷ (wordBytes (c .volts .lowest .value)
+    ++ (wordBytes (c .volts .highest .value)
+    ++ (byteOf (c .heat .lowest .value) ∷ byteOf (c .heat .highest .value) ∷ 0 ∷ []))))
+
+-- EEM 10 00 00
+unfoldable pub eemOf : Settings → ℕ → Frame
+eemOf x station = frameOf EEM station (x .own) (0x10 ∷ 0x00 ∷ 0x00 ∷ 0 ∷ 0 ∷ 0 ∷ 0 ∷ 0 ∷ [])

@@ -1,0 +1,252 @@
+// The ten frames to the station, laid out byte by byte (01, "Session by tick", "Layouts"). Every frame has 8 data bytes, zero after its
+// fields. This crate may not know when a frame is due.
+ghost use mathlib.Core.Path.{_≡_};
+ghost use Rattle.buffers.specs.Words.{high};
+ghost use Rattle.session_frames.specs.Layouts.{markOf, holdVoltage, rawRequest, eimOf, evmOf, ecpOf, ermOf, ecrFrame, ecrOf, ecsOf, esmOf, estFrame, edmOf, eemOf};
+use cells::Cells;
+use cells::sent;
+use frames::Frame;
+use session_states::phases::Phase;
+use readings::Readings;
+use settings::Settings;
+use units::HundredthVolts;
+use units::TenthVolts;
+
+fn mark(on: bool) -> u8
+    ensures { λ r. ⌜ r ≡ markOf on ⌝ }
+{
+    if on { 0xaa } else { 0x00 }
+}
+
+// The high byte of a word: a parameter, so that its range is known whatever it was read from.
+fn top(w: u16) -> u8
+    ensures { λ r. ⌜ r ≡ high w ⌝ }
+{
+    (w / 256) as u8
+}
+
+// EIM: maximum pack voltage, AA or 00.
+pub fn eim(x: Settings, station: u8, on: bool) -> Frame
+    ensures { λ r. ⌜ r ≡ eimOf x station on ⌝ }
+{
+    let v = x.pack.0;
+    let m = mark(on);
+    Frame::new(
+        rows::eim(),
+        station,
+        x.own,
+        [(v % 256) as u8, (v / 256) as u8, m, 0, 0, 0, 0, 0],
+    )
+}
+
+// EVM: 45 50 53, 00 or AA, capacity, pack voltage.
+pub fn evm(x: Settings, station: u8, r: Readings, verified: bool) -> Frame
+    ensures { λ f. ⌜ f ≡ evmOf x station r verified ⌝ }
+{
+    let a = r.capacity;
+    let v = r.pack.0;
+    let m = mark(verified);
+    Frame::new(
+        rows::evm(),
+        station,
+        x.own,
+        [
+            0x45,
+            0x50,
+            0x53,
+            m,
+            (a % 256) as u8,
+            (a / 256) as u8,
+            (v % 256) as u8,
+            (v / 256) as u8,
+        ],
+    )
+}
+
+// ECP: settings 2, 3, 4, 5.
+pub fn ecp(x: Settings, station: u8) -> Frame
+    ensures { λ f. ⌜ f ≡ ecpOf x station ⌝ }
+{
+    let a = x.cell.0;
+    let b = x.current;
+    let c = x.pack.0;
+    let d = x.temperature;
+    Frame::new(
+        rows::ecp(),
+        station,
+        x.own,
+        [
+            (a % 256) as u8,
+            (a / 256) as u8,
+            (b % 256) as u8,
+            (b / 256) as u8,
+            (c % 256) as u8,
+            (c / 256) as u8,
+            (d % 256) as u8,
+            (d / 256) as u8,
+        ],
+    )
+}
+
+// ERM: AA or 00.
+pub fn erm(x: Settings, station: u8, accepted: bool) -> Frame
+    ensures { λ f. ⌜ f ≡ ermOf x station accepted ⌝ }
+{
+    let m = mark(accepted);
+    Frame::new(rows::erm(), station, x.own, [m, 0, 0, 0, 0, 0, 0, 0])
+}
+
+// The voltage of Hold: the one place where hundredths of a volt, 3.55 V a cell, become tenths of a pack.
+pub fn hold_voltage(x: Settings, c: Cells) -> TenthVolts
+    ensures { λ r. ⌜ r .0 ≡ holdVoltage x c ⌝ }
+{
+    let cell = HundredthVolts(355);
+    let pack = cell.0 as u32 * c.volts.count as u32 / 10;
+    if pack <= x.pack.0 as u32 {
+        TenthVolts(pack as u16)
+    } else {
+        x.pack
+    }
+}
+
+// A request as a raw current: 4000 minus it.
+fn raw_request(request: u16) -> u16
+    ensures { λ r. ⌜ r ≡ rawRequest request ⌝ }
+{
+    if request <= 4000 { 4000 - request } else { 0 }
+}
+
+// ECR: voltage, raw current, mode.
+fn ecr_frame(x: Settings, station: u8, v: u16, i: u16, mode: u8) -> Frame
+    ensures { λ f. ⌜ f ≡ ecrFrame x station v i mode ⌝ }
+{
+    Frame::new(
+        rows::ecr(),
+        station,
+        x.own,
+        [
+            (v % 256) as u8,
+            (v / 256) as u8,
+            (i % 256) as u8,
+            (i / 256) as u8,
+            mode,
+            0,
+            0,
+            0,
+        ],
+    )
+}
+
+pub fn ecr(x: Settings, station: u8, c: Cells, p: Phase) -> Frame
+    ensures { λ f. ⌜ f ≡ ecrOf x station c p ⌝ }
+{
+    match p {
+        Phase::Drive {
+            request,
+            cycle: _,
+            time: _,
+        } => ecr_frame(x, station, 0, raw_request(request), 0x02),
+        Phase::Rest {
+            request: _,
+            cycle: _,
+            time: _,
+        } => ecr_frame(x, station, 0, 4000, 0x02),
+        Phase::Hold { time: _ } => {
+            let v = hold_voltage(x, c);
+            ecr_frame(x, station, v.0, 4000, 0x01)
+        }
+    }
+}
+
+// ECS: pack voltage, raw current, highest cell voltage, SOC.
+pub fn ecs(x: Settings, station: u8, r: Readings, c: Cells) -> Frame
+    ensures { λ f. ⌜ f ≡ ecsOf x station r c ⌝ }
+{
+    let v = r.pack.0;
+    let i = r.raw_current();
+    let h = c.volts.highest.value;
+    let soc = r.soc;
+    Frame::new(
+        rows::ecs(),
+        station,
+        x.own,
+        [
+            (v % 256) as u8,
+            top(v),
+            (i % 256) as u8,
+            top(i),
+            (h % 256) as u8,
+            top(h),
+            soc,
+            0,
+        ],
+    )
+}
+
+// ESM: highest voltage index, highest temperature and index, lowest and index, 01.
+pub fn esm(x: Settings, station: u8, c: Cells) -> Frame
+    ensures { λ f. ⌜ f ≡ esmOf x station c ⌝ }
+{
+    let a = sent::index_byte(c.volts.highest.index);
+    let b = c.heat.highest.value;
+    let d = sent::index_byte(c.heat.highest.index);
+    let e = c.heat.lowest.value;
+    let f = sent::index_byte(c.heat.lowest.index);
+    Frame::new(
+        rows::esm(),
+        station,
+        x.own,
+        [a, (b % 256) as u8, d, (e % 256) as u8, f, 0x01, 0, 0],
+    )
+}
+
+// EST: its two fixed bytes, then AA if acknowledged, else 00.
+pub fn est(x: Settings, station: u8, first: u8, second: u8, acknowledged: bool) -> Frame
+    ensures { λ f. ⌜ f ≡ estFrame x station first second acknowledged ⌝ }
+{
+    let m = mark(acknowledged);
+    Frame::new(
+        rows::est(),
+        station,
+        x.own,
+        [first, second, m, 0, 0, 0, 0, 0],
+    )
+}
+
+// EDM: SOC, lowest and highest cell voltage, lowest and highest temperature.
+pub fn edm(x: Settings, station: u8, r: Readings, c: Cells) -> Frame
+    ensures { λ f. ⌜ f ≡ edmOf x station r c ⌝ }
+{
+    let soc = r.soc;
+    let a = c.volts.lowest.value;
+    let b = c.volts.highest.value;
+    let d = c.heat.lowest.value;
+    let e = c.heat.highest.value;
+    Frame::new(
+        rows::edm(),
+        station,
+        x.own,
+        [
+            soc,
+            (a % 256) as u8,
+            top(a),
+            (b % 256) as u8,
+            top(b),
+            (d % 256) as u8,
+            (e % 256) as u8,
+            0,
+        ],
+    )
+}
+
+// EEM: 10 00 00.
+pub fn eem(x: Settings, station: u8) -> Frame
+    ensures { λ f. ⌜ f ≡ eemOf x station ⌝ }
+{
+    Frame::new(
+        rows::eem(),
+        station,
+        x.own,
+        [0x10, 0x00, 0x00, 0, 0, 0, 0, 0],
+    )
+}

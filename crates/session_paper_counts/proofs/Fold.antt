@@ -1,0 +1,80 @@
+-- What is kept of a count by its fold: the tests up to `back`, and the remainder by a divisor of the turn. Assumes nothing.
+use mathlib.Core.Path.{_≡_, refl, ap, sym, _∙_}
+use mathlib.Core.Bool.{Bool, true, false, cond}
+use mathlib.Core.Logic.{_⊎_, inl, inr, ⊎-elim}
+use Prim.Native.Nat.{ℕ, zero, suc, _+_, _*_, _%_, _≤_, _<_}
+use native.Mathlib.Omega.{arith}
+use native.Mathlib.Numerals.{add-one}
+use native.Mathlib.Nat.{add-mul-mod-self-right, mul-assoc}
+use borrow.Author.Tests.{leb-true, leb-false, ltb-true, ltb-false, le-leb, lt-leb, eq-eqb, ne-eqb}
+use lib.Dec.{ltb, leb, eqb}
+use Rattle.session_states.specs.Phases.{nextCount}
+use Rattle.session_paper_counts.specs.Folds.{fold}
+
+-- the fold of one more is one step more of the fold
+pub fold-next : (top back n : ℕ) → fold top back (n + 1) ≡ nextCount top back (fold top back n)
+unfolding fold
+fold-next top back n = rw (add-one n)
+
+-- n is its fold and some whole turns; where there is a turn, the fold has passed `back`
+pub record Folded (back p n f : ℕ) : Type 0 where
+  pub turns : ℕ
+  pub sum : n ≡ f + turns * (p + 1)
+  pub low : f ≤ back + p
+  pub passed : (turns ≡ 0) ⊎ (back ≤ f)
+
+folded-step : (back p n f : ℕ) → Folded back p n f → (t : Bool) → leb (back + p) f ≡ t → Folded back p (suc n) (cond t back (f + 1))
+folded-step back p n f h true e =
+    record { turns = h .turns + 1; sum = omega (arith, leb-true (back + p) f e); low = omega arith; passed = inr (omega arith) }
+folded-step back p n f h false e =
+    record {
+      turns = h .turns;
+      sum = omega arith;
+      low = omega (arith, leb-false (back + p) f e);
+      passed = ⊎-elim (λ z. inl z) (λ z. inr (omega arith)) (h .passed);
+    }
+
+pub folded : (back p n : ℕ) → Folded back p n (fold (back + p) back n)
+unfolding fold
+folded back p zero = record { turns = 0; sum = omega arith; low = omega arith; passed = inl refl }
+folded back p (suc n) =
+    folded-step back p n (fold (back + p) back n) (folded back p n) (leb (back + p) (fold (back + p) back n)) refl
+
+no-turns : (p n f k : ℕ) → n ≡ f + k * (p + 1) → k ≡ 0 → n ≡ f
+no-turns p n f k e z = let q : k * (p + 1) ≡ 0 * (p + 1) = ap (λ (x : ℕ). x * (p + 1)) z in omega arith
+
+leb-any : (t back p n f : ℕ) → t ≤ back → Folded back p n f → (r : Bool) → leb t f ≡ r → r ≡ leb t n
+leb-any t back p n f lt h true e = sym (le-leb t n (omega (arith, leb-true t f e)))
+leb-any t back p n f lt h false e =
+    ⊎-elim (λ z. sym (lt-leb t n (omega (arith, leb-false t f e, no-turns p n f (h .turns) (h .sum) z))))
+    (λ z. absurd (omega (arith, leb-false t f e))) (h .passed)
+
+-- a test up to `back` answers the same of the fold
+pub fold-leb : (t back p n : ℕ) → t ≤ back → leb t (fold (back + p) back n) ≡ leb t n
+fold-leb t back p n lt =
+    leb-any t back p n (fold (back + p) back n) lt (folded back p n) (leb t (fold (back + p) back n)) refl
+
+pub fold-ltb : (t back p n : ℕ) → t < back → ltb t (fold (back + p) back n) ≡ ltb t n
+fold-ltb t back p n lt = fold-leb (suc t) back p n lt
+
+zero-alike : (f n : ℕ) (x : Bool) → ltb 0 f ≡ x → ltb 0 n ≡ x → eqb f 0 ≡ eqb n 0
+zero-alike f n true p q =
+    ne-eqb f 0 (λ e. omega (arith, ltb-true 0 f p)) ∙ sym (ne-eqb n 0 (λ e. omega (arith, ltb-true 0 n q)))
+zero-alike f n false p q =
+    eq-eqb f 0 (omega (arith, ltb-false 0 f p)) ∙ sym (eq-eqb n 0 (omega (arith, ltb-false 0 n q)))
+
+-- only 0 folds to 0
+pub fold-zero : (back p n : ℕ) → 0 < back → eqb (fold (back + p) back n) 0 ≡ eqb n 0
+fold-zero back p n h = zero-alike (fold (back + p) back n) n (ltb 0 n) (fold-ltb 0 back p n h) refl
+
+mod-any : (d e p n f k : ℕ) → p + 1 ≡ e * d → n ≡ f + k * (p + 1) → f % d ≡ n % d
+mod-any d e p n f k h s = rw (s, h, ← mul-assoc k e d) (sym (add-mul-mod-self-right f (k * e) d))
+
+-- a remainder by a divisor of the turn is the same of the fold
+pub fold-mod : (d e back p n : ℕ) → p + 1 ≡ e * d → fold (back + p) back n % d ≡ n % d
+fold-mod d e back p n h =
+    mod-any d e p n (fold (back + p) back n) (folded back p n .turns) h (folded back p n .sum)
+
+-- a fold is never above `top`
+pub fold-low : (back p n : ℕ) → fold (back + p) back n ≤ back + p
+fold-low back p n = folded back p n .low

@@ -1,0 +1,58 @@
+-- Rows of 01, "Worked rows", marked P, that are about requests. Assumes nothing.
+use Prim.Native.Nat.{ℕ}
+use mathlib.Core.Path.{_≡_, refl}
+use mathlib.Core.Bool.{true, false}
+use Rattle.units.specs.declared.TenthAmps.{TenthAmps}
+use Rattle.session_states.specs.declared.phases.Phase.the-variants.{Drive, Rest, Hold}
+use Rattle.session_states.specs.declared.phases.Turned.the-variants.{On}
+use Rattle.session_states.specs.Phases.{startPhase, afterRest, driveRules, holdRules, turnedOf}
+
+-- so many tenths of an ampere
+abbrev pub tenths : ℕ → TenthAmps
+tenths n = record { 0 = n }
+
+-- 400 is asked 400, 200, 100, then Hold: each Drive goes to Rest at a full cell, and each Rest of 6000 ticks to what follows
+pub asked-400 : startPhase (tenths 400) (tenths 400) ≡ Drive (tenths 400) 1 0
+unfolding startPhase
+asked-400 = refl
+
+pub rest-400 : turnedOf (Drive (tenths 400) 1 0) true ≡ On (Rest (tenths 400) 1 0)
+unfolding turnedOf driveRules
+rest-400 = refl
+
+pub then-200 : turnedOf (Rest (tenths 400) 1 6000) false ≡ On (Drive (tenths 200) 2 0)
+unfolding turnedOf afterRest driveRules
+then-200 = refl
+
+pub rest-200 : turnedOf (Drive (tenths 200) 2 0) true ≡ On (Rest (tenths 200) 2 0)
+unfolding turnedOf driveRules
+rest-200 = refl
+
+pub then-100 : turnedOf (Rest (tenths 200) 2 6000) false ≡ On (Drive (tenths 100) 3 0)
+unfolding turnedOf afterRest driveRules
+then-100 = refl
+
+pub rest-100 : turnedOf (Drive (tenths 100) 3 0) true ≡ On (Rest (tenths 100) 3 0)
+unfolding turnedOf driveRules
+rest-100 = refl
+
+pub then-hold : turnedOf (Rest (tenths 100) 3 6000) false ≡ On (Hold 0)
+unfolding turnedOf afterRest holdRules
+then-hold = refl
+
+-- R 60 drives, 59 holds: at the start by the station's maximum, and after a Rest
+pub sixty-drives : startPhase (tenths 400) (tenths 60) ≡ Drive (tenths 60) 1 0
+unfolding startPhase
+sixty-drives = refl
+
+pub fifty-nine-holds : startPhase (tenths 400) (tenths 59) ≡ Hold 0
+unfolding startPhase
+fifty-nine-holds = refl
+
+pub sixty-drives-again : turnedOf (Rest (tenths 120) 1 6000) false ≡ On (Drive (tenths 60) 2 0)
+unfolding turnedOf afterRest driveRules
+sixty-drives-again = refl
+
+pub fifty-nine-holds-then : turnedOf (Rest (tenths 119) 1 6000) false ≡ On (Hold 0)
+unfolding turnedOf afterRest holdRules
+fifty-nine-holds-then = refl

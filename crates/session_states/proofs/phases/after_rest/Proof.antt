@@ -1,0 +1,42 @@
+-- `session_states::phases::after_rest` meets its contract. Assumes nothing.
+use borrow.Author.Tests.{le-leb, lt-leb, lt-ltb, le-ltb}
+use Rattle.session_states.specs.Phases.{afterRest}
+use borrow.Author.Needs.{needs}
+use Rattle.session_states.proofs.phases.after_rest.Statement.{statement}
+use Rattle.session_states.proofs.phases.after_rest.Tie as tie
+
+hold-rules-requires : tie.Need-hold-rules-requires
+hold-rules-requires c κs = search needs
+
+hold-rules-requires-2 : tie.Need-hold-rules-requires-2
+hold-rules-requires-2 c κs = search needs
+
+add-drive-rules : tie.Need-add-drive-rules
+add-drive-rules c = search needs
+
+drive-rules-requires : tie.Need-drive-rules-requires
+drive-rules-requires c κs = search needs
+
+returns : tie.Need-returns
+unfolding afterRest
+returns c = rw (lt-ltb _ _ (c .before .if1 .taken)) (c .hold-rules .ensures)
+
+returns-2 : tie.Need-returns-2
+unfolding afterRest
+returns-2 c = rw (le-ltb _ _ (c .before .before .if1 .left), le-leb _ _ (c .before .if2 .taken)) (c .hold-rules2 .ensures)
+
+returns-3 : tie.Need-returns-3
+unfolding afterRest
+returns-3 c = rw (le-ltb _ _ (c .before .before .if1 .left), lt-leb _ _ (c .before .if2 .left)) (c .drive-rules .ensures)
+
+pub after-rest-spec : {M : Type 1} → statement M
+after-rest-spec =
+    tie.close
+    (tie.spec
+    hold-rules-requires
+    hold-rules-requires-2
+    add-drive-rules
+    drive-rules-requires
+    returns
+    returns-2
+    returns-3)
