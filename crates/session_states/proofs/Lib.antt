@@ -1,1 +1,2 @@
+pub mod NotIdle
 pub mod WorkedRows

@@ -1,8 +1,8 @@
--- `session_states::phases::next_count` meets its contract. Assumes nothing.
+-- `session_states::counts::next_count` meets its contract. Assumes nothing.
 use borrow.Author.Tests.{le-leb, lt-leb}
 use borrow.Author.Needs.{needs}
-use Rattle.session_states.proofs.phases.next_count.Statement.{statement}
-use Rattle.session_states.proofs.phases.next_count.Tie as tie
+use Rattle.session_states.proofs.counts.next_count.Statement.{statement}
+use Rattle.session_states.proofs.counts.next_count.Tie as tie
 
 add-result : tie.Need-add-result
 add-result c = search needs
