@@ -22,7 +22,13 @@ cvmOf a = cond (eqb a 0xaa) (Allowed (Cvm true)) (cond (eqb a 0x00) (Allowed (Cv
 abbrev pub cmpOf : List ℕ → Content
 cmpOf s =
     Allowed
-    (Cmp (record { highest = record { 0 = wordAt s 0 }; lowest = record { 0 = wordAt s 2 }; most = wordAt s 4; least = wordAt s 6 }))
+    (Cmp
+    (record {
+      highest = record { 0 = wordAt s 0 };
+      lowest = record { 0 = wordAt s 2 };
+      most = record { 0 = wordAt s 4 };
+      least = record { 0 = wordAt s 6 };
+    }))
 
 abbrev pub crmOf : ℕ → Content
 crmOf a =

@@ -4,14 +4,15 @@ ghost use mathlib.Core.Path.{_≡_};
 ghost use lib.ListN.{getD};
 ghost use Rattle.charge_messages.specs.Content.{cimOf, cvmOf, cmpOf, crmOf, ccsOf, cstOf, cemOf, contentOf};
 use messages::received::Charge;
+use units::RawAmps;
 use units::TenthVolts;
 
-// CMP: the station's maximum and minimum voltage, and its maximum and minimum current as raw words.
+// CMP: the station's maximum and minimum voltage, and its maximum and minimum current as the words that they are.
 pub struct Offer {
     pub highest: TenthVolts,
     pub lowest: TenthVolts,
-    pub most: u16,
-    pub least: u16,
+    pub most: RawAmps,
+    pub least: RawAmps,
 }
 
 // A charge message whose content is allowed; a flag is true where its byte is AA (of CCS, 01).
@@ -56,8 +57,8 @@ fn cmp(bytes: &[u8]) -> Content
     let offer = Offer {
         highest: TenthVolts(buffers::word_at(bytes, 0)),
         lowest: TenthVolts(buffers::word_at(bytes, 2)),
-        most: buffers::word_at(bytes, 4),
-        least: buffers::word_at(bytes, 6),
+        most: RawAmps(buffers::word_at(bytes, 4)),
+        least: RawAmps(buffers::word_at(bytes, 6)),
     };
     Content::Allowed(ChargeMessage::Cmp(offer))
 }

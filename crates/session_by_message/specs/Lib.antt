@@ -1,2 +1,3 @@
 pub mod Offer
+pub mod InnerSigned
 pub mod Message

@@ -7,6 +7,8 @@ use Rattle.settings.specs.declared.Settings.{Settings}
 use Rattle.charge_messages.specs.declared.Offer.{Offer}
 use Rattle.charge_messages.specs.declared.ChargeMessage.{ChargeMessage}
 use Rattle.charge_messages.specs.declared.ChargeMessage.the-variants.{Cim, Cvm, Cmp, Crm, Ccs, Cst, Cem}
+use Rattle.units.specs.declared.TenthAmps.{TenthAmps}
+use Rattle.session_states.specs.Limits.{firstEcp}
 use Rattle.session_states.specs.Phases.{startPhase}
 use Rattle.session_states.specs.declared.states.Est.{Est}
 use Rattle.session_states.specs.declared.states.Est.the-variants.{Awaited}
@@ -14,7 +16,7 @@ use Rattle.session_states.specs.declared.states.State.{State}
 use Rattle.session_states.specs.declared.states.State.the-variants.{Idle, Offered, Unverified, Parameters, Ready, Charging, Stopping, Error}
 use Rattle.session_by_message.specs.declared.Outcome.{Outcome}
 use Rattle.session_by_message.specs.declared.Outcome.the-variants.{Refuse, OutOfStep, Open, Heard, Enter, Keep, End}
-use Rattle.session_by_message.specs.Offer.{acceptedOf, stationMost}
+use Rattle.session_by_message.specs.Offer.{acceptedOf, stationMaximum}
 
 -- the paper's number for each outcome: 0 is taken, 11 is not taken in this state
 abbrev pub outcomeNumber : Outcome → ℕ
@@ -31,8 +33,12 @@ abbrev pub goneOut : ℕ → ℕ → Bool
 goneOut k count = ltb k count
 
 -- CST, either value, from Offered to Charging enters Stopping marked acknowledged
-abbrev pub stopAcknowledged : Outcome
-stopAcknowledged = Enter (Stopping true Awaited)
+abbrev pub stopByCst : Outcome
+stopByCst = Enter (Stopping true Awaited)
+
+-- CEM in any session ends it to Idle
+abbrev pub endByCem : Outcome
+endByCem = End
 
 -- Idle: CIM from a listed station opens Offered with it
 unfoldable pub inIdle : ChargeMessage → Outcome
@@ -51,8 +57,8 @@ inOffered count (Cvm b) = cond (goneOut 0 count) (cond b (Enter Parameters) (Ent
 inOffered count (Cmp o) = OutOfStep
 inOffered count (Crm b) = OutOfStep
 inOffered count (Ccs b) = OutOfStep
-inOffered count (Cst b) = stopAcknowledged
-inOffered count Cem = End
+inOffered count (Cst b) = stopByCst
+inOffered count Cem = endByCem
 
 -- Unverified: CVM 00 stays, AA to Parameters
 unfoldable pub inUnverified : ChargeMessage → Outcome
@@ -61,36 +67,36 @@ inUnverified (Cvm b) = cond b (Enter Parameters) Heard
 inUnverified (Cmp o) = OutOfStep
 inUnverified (Crm b) = OutOfStep
 inUnverified (Ccs b) = OutOfStep
-inUnverified (Cst b) = stopAcknowledged
-inUnverified Cem = End
+inUnverified (Cst b) = stopByCst
+inUnverified Cem = endByCem
 
 -- each CMP, the entering one too, sets yes or no and returns the count to 0
 unfoldable pub readyOf : Settings → Offer → Outcome
-readyOf x o = Enter (Ready (acceptedOf x o) (stationMost o))
+readyOf x o = Enter (Ready (acceptedOf x o) (stationMaximum o))
 
--- Parameters: CVM AA does nothing; CVM 00 is out of step. CMP is taken once an ECP has gone out (first at count 5), to Ready
+-- Parameters: CVM AA does nothing; CVM 00 is out of step. CMP is taken once an ECP has gone out, to Ready
 unfoldable pub inParameters : Settings → ℕ → ChargeMessage → Outcome
 inParameters x count Cim = Refuse
 inParameters x count (Cvm b) = cond b Heard OutOfStep
-inParameters x count (Cmp o) = cond (goneOut 5 count) (readyOf x o) OutOfStep
+inParameters x count (Cmp o) = cond (goneOut firstEcp count) (readyOf x o) OutOfStep
 inParameters x count (Crm b) = OutOfStep
 inParameters x count (Ccs b) = OutOfStep
-inParameters x count (Cst b) = stopAcknowledged
-inParameters x count Cem = End
+inParameters x count (Cst b) = stopByCst
+inParameters x count Cem = endByCem
 
 -- Ready: CRM is taken if yes and an ERM AA has gone out since that CMP (which set the count to 0): AA to Charging, 00 and FF stay
-unfoldable pub crmOf : Settings → Bool → ℕ → ℕ → Bool → Outcome
-crmOf x accepted most count b =
-    cond (accepted && goneOut 0 count) (cond b (Enter (Charging (startPhase (x .current) most))) Heard) OutOfStep
+unfoldable pub crmInReady : Settings → Bool → TenthAmps → ℕ → Bool → Outcome
+crmInReady x accepted maximum count b =
+    cond (accepted && goneOut 0 count) (cond b (Enter (Charging (startPhase (x .limits .current) maximum))) Heard) OutOfStep
 
-unfoldable pub inReady : Settings → Bool → ℕ → ℕ → ChargeMessage → Outcome
-inReady x accepted most count Cim = Refuse
-inReady x accepted most count (Cvm b) = OutOfStep
-inReady x accepted most count (Cmp o) = readyOf x o
-inReady x accepted most count (Crm b) = crmOf x accepted most count b
-inReady x accepted most count (Ccs b) = OutOfStep
-inReady x accepted most count (Cst b) = stopAcknowledged
-inReady x accepted most count Cem = End
+unfoldable pub inReady : Settings → Bool → TenthAmps → ℕ → ChargeMessage → Outcome
+inReady x accepted maximum count Cim = Refuse
+inReady x accepted maximum count (Cvm b) = OutOfStep
+inReady x accepted maximum count (Cmp o) = readyOf x o
+inReady x accepted maximum count (Crm b) = crmInReady x accepted maximum count b
+inReady x accepted maximum count (Ccs b) = OutOfStep
+inReady x accepted maximum count (Cst b) = stopByCst
+inReady x accepted maximum count Cem = endByCem
 
 -- Charging: CCS 01 stays, CCS 00 to Stopping
 unfoldable pub inCharging : ChargeMessage → Outcome
@@ -99,8 +105,8 @@ inCharging (Cvm b) = Refuse
 inCharging (Cmp o) = Refuse
 inCharging (Crm b) = Refuse
 inCharging (Ccs b) = cond b Heard (Enter (Stopping false Awaited))
-inCharging (Cst b) = stopAcknowledged
-inCharging Cem = End
+inCharging (Cst b) = stopByCst
+inCharging Cem = endByCem
 
 -- Stopping: CST 00 marks acknowledged. CST AA ends to Idle if an EST has gone out since entry, else 11
 unfoldable pub inStopping : Est → ℕ → ChargeMessage → Outcome
@@ -110,9 +116,9 @@ inStopping est count (Cmp o) = Refuse
 inStopping est count (Crm b) = Refuse
 inStopping est count (Ccs b) = Refuse
 inStopping est count (Cst b) = cond b (cond (goneOut 0 count) End Refuse) (Keep (Stopping true est))
-inStopping est count Cem = End
+inStopping est count Cem = endByCem
 
--- CEM in any session ends it to Idle. Everything else is 11
+-- Error: CEM ends it. Everything else is 11
 unfoldable pub inError : ChargeMessage → Outcome
 inError Cim = Refuse
 inError (Cvm b) = Refuse
@@ -120,14 +126,14 @@ inError (Cmp o) = Refuse
 inError (Crm b) = Refuse
 inError (Ccs b) = Refuse
 inError (Cst b) = Refuse
-inError Cem = End
+inError Cem = endByCem
 
 unfoldable pub outcomeOf : Settings → State → ℕ → ChargeMessage → Outcome
 outcomeOf x Idle count m = inIdle m
 outcomeOf x Offered count m = inOffered count m
 outcomeOf x Unverified count m = inUnverified m
 outcomeOf x Parameters count m = inParameters x count m
-outcomeOf x (Ready accepted most) count m = inReady x accepted most count m
+outcomeOf x (Ready accepted maximum) count m = inReady x accepted maximum count m
 outcomeOf x (Charging p) count m = inCharging m
 outcomeOf x (Stopping acknowledged est) count m = inStopping est count m
 outcomeOf x Error count m = inError m

@@ -1,24 +1,44 @@
 // What a charge message comes to, state by state (01, "Session by message").
 ghost use mathlib.Core.Path.{_≡_};
-ghost use Rattle.session_by_message.specs.Message.{readyOf, crmOf, inIdle, inOffered, inUnverified, inParameters, inReady, inCharging, inStopping, inError, outcomeOf};
+ghost use Rattle.session_by_message.specs.Message.{readyOf, crmInReady, stopByCst, endByCem, inIdle, inOffered, inUnverified, inParameters, inReady, inCharging, inStopping, inError, outcomeOf};
 use crate::Outcome;
 use crate::offer;
 use charge_messages::ChargeMessage;
 use charge_messages::Offer;
-use settings::Settings;
+use session_states::limits;
+use session_states::phases;
 use session_states::states::Est;
 use session_states::states::State;
+use settings::Settings;
+use units::TenthAmps;
 
 // A CMP, the entering one too, sets yes or no and returns the count to 0.
 fn ready(x: Settings, o: Offer) -> Outcome
     ensures { λ r. ⌜ r ≡ readyOf x o ⌝ }
 {
     let accepted = offer::accepted(x, o);
-    let most = offer::station_most(o);
+    let maximum = offer::station_maximum(o);
     Outcome::Enter(State::Ready {
         accepted: accepted,
-        most: most,
+        maximum: maximum,
     })
+}
+
+// CST, either value, from Offered to Charging enters Stopping marked acknowledged.
+fn stop_by_cst() -> Outcome
+    ensures { λ r. ⌜ r ≡ stopByCst ⌝ }
+{
+    Outcome::Enter(State::Stopping {
+        acknowledged: true,
+        est: Est::Awaited,
+    })
+}
+
+// CEM in any session ends it to Idle.
+fn end_by_cem() -> Outcome
+    ensures { λ r. ⌜ r ≡ endByCem ⌝ }
+{
+    Outcome::End
 }
 
 fn in_idle(m: ChargeMessage) -> Outcome
@@ -46,11 +66,8 @@ fn in_offered(count: u16, m: ChargeMessage) -> Outcome
                 Outcome::OutOfStep
             }
         }
-        ChargeMessage::Cst(_) => Outcome::Enter(State::Stopping {
-            acknowledged: true,
-            est: Est::Awaited,
-        }),
-        ChargeMessage::Cem => Outcome::End,
+        ChargeMessage::Cst(_) => stop_by_cst(),
+        ChargeMessage::Cem => end_by_cem(),
         _ => Outcome::OutOfStep,
     }
 }
@@ -67,11 +84,8 @@ fn in_unverified(m: ChargeMessage) -> Outcome
                 Outcome::Heard
             }
         }
-        ChargeMessage::Cst(_) => Outcome::Enter(State::Stopping {
-            acknowledged: true,
-            est: Est::Awaited,
-        }),
-        ChargeMessage::Cem => Outcome::End,
+        ChargeMessage::Cst(_) => stop_by_cst(),
+        ChargeMessage::Cem => end_by_cem(),
         _ => Outcome::OutOfStep,
     }
 }
@@ -89,27 +103,24 @@ fn in_parameters(x: Settings, count: u16, m: ChargeMessage) -> Outcome
             }
         }
         ChargeMessage::Cmp(o) => {
-            if 5 < count {
+            if limits::FIRST_ECP < count {
                 ready(x, o)
             } else {
                 Outcome::OutOfStep
             }
         }
-        ChargeMessage::Cst(_) => Outcome::Enter(State::Stopping {
-            acknowledged: true,
-            est: Est::Awaited,
-        }),
-        ChargeMessage::Cem => Outcome::End,
+        ChargeMessage::Cst(_) => stop_by_cst(),
+        ChargeMessage::Cem => end_by_cem(),
         _ => Outcome::OutOfStep,
     }
 }
 
-fn ready_crm(x: Settings, accepted: bool, most: u16, count: u16, go: bool) -> Outcome
-    ensures { λ r. ⌜ r ≡ crmOf x accepted most count go ⌝ }
+fn crm_in_ready(x: Settings, accepted: bool, maximum: TenthAmps, count: u16, go: bool) -> Outcome
+    ensures { λ r. ⌜ r ≡ crmInReady x accepted maximum count go ⌝ }
 {
     if accepted & (0 < count) {
         if go {
-            Outcome::Enter(State::Charging(session_states::phases::start_phase(x.current, most)))
+            Outcome::Enter(State::Charging(phases::start_phase(x.limits.current, maximum)))
         } else {
             Outcome::Heard
         }
@@ -118,18 +129,21 @@ fn ready_crm(x: Settings, accepted: bool, most: u16, count: u16, go: bool) -> Ou
     }
 }
 
-fn in_ready(x: Settings, accepted: bool, most: u16, count: u16, m: ChargeMessage) -> Outcome
-    ensures { λ r. ⌜ r ≡ inReady x accepted most count m ⌝ }
+fn in_ready(
+    x: Settings,
+    accepted: bool,
+    maximum: TenthAmps,
+    count: u16,
+    m: ChargeMessage,
+) -> Outcome
+    ensures { λ r. ⌜ r ≡ inReady x accepted maximum count m ⌝ }
 {
     match m {
         ChargeMessage::Cim => Outcome::Refuse,
         ChargeMessage::Cmp(o) => ready(x, o),
-        ChargeMessage::Crm(go) => ready_crm(x, accepted, most, count, go),
-        ChargeMessage::Cst(_) => Outcome::Enter(State::Stopping {
-            acknowledged: true,
-            est: Est::Awaited,
-        }),
-        ChargeMessage::Cem => Outcome::End,
+        ChargeMessage::Crm(go) => crm_in_ready(x, accepted, maximum, count, go),
+        ChargeMessage::Cst(_) => stop_by_cst(),
+        ChargeMessage::Cem => end_by_cem(),
         _ => Outcome::OutOfStep,
     }
 }
@@ -148,11 +162,8 @@ fn in_charging(m: ChargeMessage) -> Outcome
                 })
             }
         }
-        ChargeMessage::Cst(_) => Outcome::Enter(State::Stopping {
-            acknowledged: true,
-            est: Est::Awaited,
-        }),
-        ChargeMessage::Cem => Outcome::End,
+        ChargeMessage::Cst(_) => stop_by_cst(),
+        ChargeMessage::Cem => end_by_cem(),
         _ => Outcome::Refuse,
     }
 }
@@ -175,7 +186,7 @@ fn in_stopping(est: Est, count: u16, m: ChargeMessage) -> Outcome
                 })
             }
         }
-        ChargeMessage::Cem => Outcome::End,
+        ChargeMessage::Cem => end_by_cem(),
         _ => Outcome::Refuse,
     }
 }
@@ -184,7 +195,7 @@ fn in_error(m: ChargeMessage) -> Outcome
     ensures { λ r. ⌜ r ≡ inError m ⌝ }
 {
     match m {
-        ChargeMessage::Cem => Outcome::End,
+        ChargeMessage::Cem => end_by_cem(),
         _ => Outcome::Refuse,
     }
 }
@@ -198,7 +209,7 @@ pub fn outcome(x: Settings, state: State, count: u16, m: ChargeMessage) -> Outco
         State::Offered => in_offered(count, m),
         State::Unverified => in_unverified(m),
         State::Parameters => in_parameters(x, count, m),
-        State::Ready { accepted, most } => in_ready(x, accepted, most, count, m),
+        State::Ready { accepted, maximum } => in_ready(x, accepted, maximum, count, m),
         State::Charging(_) => in_charging(m),
         State::Stopping {
             acknowledged: _,

@@ -9,6 +9,10 @@ silenceLimit = 200
 abbrev pub closingLimit : ℕ
 closingLimit = 600
 
+-- Parameters: "ECP at 5, 15, 25 and so on"
+abbrev pub firstEcp : ℕ
+firstEcp = 5
+
 -- "Drive asks R for up to 18000 ticks"
 abbrev pub driveLimit : ℕ
 driveLimit = 18000

@@ -7,6 +7,9 @@ pub const SILENCE: u8 = 200;
 // The count at which Stopping and Error end.
 pub const CLOSING: u16 = 600;
 
+// The count of Parameters at which the first ECP goes out.
+pub const FIRST_ECP: u16 = 5;
+
 // The ticks of a Drive, a Rest and a Hold.
 pub const DRIVE: u16 = 18000;
 
