@@ -17,7 +17,7 @@ use Rattle.settings.specs.declared.Settings.{Settings}
 use Rattle.settings.specs.declared.Stations.{Stations}
 use Rattle.settings.specs.declared.SettingsRead.{SettingsRead}
 use Rattle.settings.specs.declared.SettingsRead.the-variants.{Read, Refused}
-use Rattle.settings.specs.Range.{within, distinct, eachGood, stationList, goodStations, inRange}
+use Rattle.settings.specs.Range.{lastAddress, leastStations, mostStations, within, distinct, eachGood, stationList, goodStations, limitsInRange, inRange}
 use Rattle.settings.specs.Record.{field, versionList, recordOf}
 use Rattle.settings.specs.Read.{headAt, layoutOf, settingsOf, recordNumber, answerNumber, readOf}
 use Rattle.settings.specs.Write.{Wrote, writeNumber, writtenOf, laterOf}
@@ -37,22 +37,19 @@ within-most least most n e = leb-true n most (and-right (leb least n) (leb n mos
 range-stations : (x : Settings) → inRange x ≡ true → goodStations (x .own) (x .stations) ≡ true
 unfolding inRange
 range-stations x e =
-    and-right (within 0 255 (x .temperature)) (goodStations (x .own) (x .stations))
-    (and-right (within 1 65535 (x .pack .0)) _
-    (and-right (within 60 4000 (x .current)) _
-    (and-right (within 200 500 (x .cell .0)) _ (and-right (within 0 253 (x .own)) _ e))))
+    and-right (limitsInRange (x .limits)) (goodStations (x .own) (x .stations)) (and-right (within 0 lastAddress (x .own)) _ e)
 
-range-count : (x : Settings) → inRange x ≡ true → within 1 4 (x .stations .count) ≡ true
+range-count : (x : Settings) → inRange x ≡ true → within leastStations mostStations (x .stations .count) ≡ true
 unfolding goodStations
 range-count x e =
     let s = x .stations in
-    and-left (within 1 4 (s .count)) (distinct (stationList s) && eachGood (x .own) (stationList s)) (range-stations x e)
+    and-left (within leastStations mostStations (s .count)) (distinct (stationList s) && eachGood (x .own) (stationList s)) (range-stations x e)
 
 pub range-some : (x : Settings) → inRange x ≡ true → 1 ≤ x .stations .count
-range-some x e = within-least 1 4 (x .stations .count) (range-count x e)
+range-some x e = within-least leastStations mostStations (x .stations .count) (range-count x e)
 
 pub range-four : (x : Settings) → inRange x ≡ true → x .stations .count ≤ 4
-range-four x e = within-most 1 4 (x .stations .count) (range-count x e)
+range-four x e = within-most leastStations mostStations (x .stations .count) (range-count x e)
 
 -- three and four stations, as the code has the tests and as the lists have them
 and-3 : (ab ac bc pa pb pc : Bool)
@@ -70,7 +67,7 @@ abbrev apart : ℕ → ℕ → Bool
 apart a b = not (eqb a b)
 
 abbrev good : ℕ → ℕ → Bool
-good own a = leb a 253 && not (eqb a own)
+good own a = leb a lastAddress && not (eqb a own)
 
 module _ (own : ℕ) (s : Stations) where
   of : ℕ → Stations
@@ -112,17 +109,17 @@ stations-none own s h1 h2 h3 h4 =
 -- ---- reading
 
 module _ (s : List ℕ) (n : ℕ) (count : n ≡ wordAt s 25) where
-  pub layout-no : within 1 4 n ≡ false → false ≡ layoutOf s
+  pub layout-no : within leastStations mostStations n ≡ false → false ≡ layoutOf s
   unfolding layoutOf
-  layout-no e = let w : within 1 4 (wordAt s 25) ≡ false = rw (← count) e in rw w
+  layout-no e = let w : within leastStations mostStations (wordAt s 25) ≡ false = rw (← count) e in rw w
 
-  pub layout-yes : within 1 4 n ≡ true → (a b c d e f g : Bool)
+  pub layout-yes : within leastStations mostStations n ≡ true → (a b c d e f g : Bool)
       → a ≡ headAt s 0 1 1 → b ≡ headAt s 4 2 2 → c ≡ headAt s 9 3 2 → d ≡ headAt s 14 4 2 → e ≡ headAt s 19 5 2
       → f ≡ headAt s 24 6 n → g ≡ headAt s (27 + n) 7 5
       → (eqb (length s) (35 + n) && (a && (b && (c && (d && (e && (f && g))))))) ≡ layoutOf s
   unfolding layoutOf
   layout-yes t a b c d e f g ha hb hc hd he hf hg =
-      let w : within 1 4 (wordAt s 25) ≡ true = rw (← count) t in rw w (cc)
+      let w : within leastStations mostStations (wordAt s 25) ≡ true = rw (← count) t in rw w (cc)
 
 -- what reading answers, in each of the three cases: the number, and the answer itself
 abbrev pub Says : List ℕ → SettingsRead → Type 0
@@ -158,9 +155,9 @@ length-record x h = omega (arith, length-append (stationList (x .stations)) (fie
 pub record-front : (x : Settings) → x .stations .count ≤ 4
     → recordOf x
     ≡ field 1 (x .own ∷ [])
-    ++ (field 2 (wordBytes (x .cell .0))
-    ++ (field 3 (wordBytes (x .current))
-    ++ (field 4 (wordBytes (x .pack .0)) ++ (field 5 (wordBytes (x .temperature)) ++ (6 ∷ wordBytes (x .stations .count))))))
+    ++ (field 2 (wordBytes (x .limits .cell .0))
+    ++ (field 3 (wordBytes (x .limits .current .0))
+    ++ (field 4 (wordBytes (x .limits .pack .0)) ++ (field 5 (wordBytes (x .limits .temperature .0)) ++ (6 ∷ wordBytes (x .stations .count))))))
     ++ (stationList (x .stations) ++ field 7 (versionList (x .versions)))
 unfolding recordOf
 record-front x h = rw (length-stations (x .stations) h)

@@ -16,10 +16,10 @@ use Rattle.settings.specs.declared.Settings.{Settings}
 use Rattle.settings.specs.declared.Stations.{Stations}
 use Rattle.settings.specs.declared.Written.{Written}
 use Rattle.settings.specs.declared.SettingsRead.the-variants.{Read, Refused}
-use Rattle.settings.specs.Range.{within, inRange, goodStations, stationList}
+use Rattle.settings.specs.Range.{leastStations, mostStations, within, inRange, goodStations, stationList}
 use Rattle.settings.specs.Record.{field, versionList, recordOf}
-use Rattle.settings.specs.Read.{headAt, layoutOf, stationAt, stationsAt, versionsAt, settingsOf, readOf}
-use Rattle.settings.specs.Tidy.{tidy, tidyStations, Bytes}
+use Rattle.settings.specs.Read.{headAt, layoutOf, stationAt, stationsAt, versionsAt, limitsOf, settingsOf, readOf}
+use Rattle.settings.specs.Tidy.{withStations, tidy, tidyStations, Bytes}
 use Rattle.settings.specs.Write.{Wrote, writeNumber, writtenOf, laterOf}
 use Rattle.buffers.proofs.Tests.{and-left, and-right}
 use Rattle.settings.proofs.Laws.{range-some, range-four, within-least, within-most, read-0}
@@ -38,49 +38,42 @@ one-to-four P p1 p2 p3 p4 (suc (suc (suc (suc (suc n))))) h k = absurd (omega ar
 word-back : (w : ℕ) → w % 256 + w / 256 * 256 ≡ w
 word-back w = omega arith
 
+-- a word that has been through its two bytes
+abbrev again : ℕ → ℕ
+again w = w % 256 + w / 256 * 256
+
 -- settings whose words have been through their two bytes
 words-back : (x : Settings) (s : Stations)
     → _≡_ {A = Settings}
     (record {
       own = x .own;
-      cell = record { 0 = x .cell .0 % 256 + x .cell .0 / 256 * 256 };
-      current = x .current % 256 + x .current / 256 * 256;
-      pack = record { 0 = x .pack .0 % 256 + x .pack .0 / 256 * 256 };
-      temperature = x .temperature % 256 + x .temperature / 256 * 256;
+      limits =
+          record {
+            cell = record { 0 = again (x .limits .cell .0) };
+            current = record { 0 = again (x .limits .current .0) };
+            pack = record { 0 = again (x .limits .pack .0) };
+            temperature = record { 0 = again (x .limits .temperature .0) };
+          };
       stations = s;
       versions = x .versions;
     })
-    (record {
-      own = x .own;
-      cell = x .cell;
-      current = x .current;
-      pack = x .pack;
-      temperature = x .temperature;
-      stations = s;
-      versions = x .versions;
-    })
-words-back x s = rw (word-back (x .cell .0), word-back (x .current), word-back (x .pack .0), word-back (x .temperature))
+    (withStations x s)
+words-back x s =
+    let l = x .limits in
+    rw (word-back (l .cell .0), word-back (l .current .0), word-back (l .pack .0), word-back (l .temperature .0))
 
 module _ (x : Settings) where
   -- these settings with n stations
   of : ℕ → Settings
   of n =
-      record {
-        own = x .own;
-        cell = x .cell;
-        current = x .current;
-        pack = x .pack;
-        temperature = x .temperature;
-        stations =
-            record {
-              count = n;
-              first = x .stations .first;
-              second = x .stations .second;
-              third = x .stations .third;
-              fourth = x .stations .fourth;
-            };
-        versions = x .versions;
-      }
+      withStations x
+      (record {
+        count = n;
+        first = x .stations .first;
+        second = x .stations .second;
+        third = x .stations .third;
+        fourth = x .stations .fourth;
+      })
 
   -- the record has the layout, and its values are these
   record Back (n : ℕ) : Type 0 where
@@ -88,7 +81,7 @@ module _ (x : Settings) where
     values : settingsOf (recordOf (of n)) ≡ tidy (of n)
 
   back-values : (n : ℕ) → 1 ≤ n → n ≤ 4 → Back n
-  unfolding of recordOf layoutOf within headAt settingsOf stationsAt stationAt versionsAt
+  unfolding of recordOf layoutOf within headAt limitsOf settingsOf stationsAt stationAt versionsAt
   back-values =
       one-to-four Back
       (record { layout = refl; values = words-back x (tidyStations (of 1 .stations)) })
@@ -198,11 +191,11 @@ module _ (s : List ℕ) (bytes : Bytes s) where
 
   -- a record of the layout is the record of its values
   pub layout-exact : layoutOf s ≡ true → recordOf (settingsOf s) ≡ s
-  unfolding layoutOf recordOf settingsOf
+  unfolding layoutOf recordOf limitsOf settingsOf
   layout-exact l =
       let n : ℕ = wordAt s 25 in
-      let w = and-left (within 1 4 n) _ l in
-      let l1 = and-right (within 1 4 n) _ l in
+      let w = and-left (within leastStations mostStations n) _ l in
+      let l1 = and-right (within leastStations mostStations n) _ l in
       let size : length s ≡ 35 + n = eqb-true (length s) (35 + n) (and-left (eqb (length s) (35 + n)) _ l1) in
       let l2 = and-right (eqb (length s) (35 + n)) _ l1 in
       let l3 = and-right (headAt s 0 1 1) _ l2 in
@@ -210,8 +203,8 @@ module _ (s : List ℕ) (bytes : Bytes s) where
       let l5 = and-right (headAt s 9 3 2) _ l4 in
       let l6 = and-right (headAt s 14 4 2) _ l5 in
       let l7 = and-right (headAt s 19 5 2) _ l6 in
-      let some : 1 ≤ n = within-least 1 4 n w in
-      let four : n ≤ 4 = within-most 1 4 n w in
+      let some : 1 ≤ n = within-least leastStations mostStations n w in
+      let four : n ≤ 4 = within-most leastStations mostStations n w in
       let e1 = step 0 1 1 (and-left (headAt s 0 1 1) _ l2) (omega arith) in
       let e2 = step 4 2 2 (and-left (headAt s 4 2 2) _ l3) (omega arith) in
       let e3 = step 9 3 2 (and-left (headAt s 9 3 2) _ l4) (omega arith) in

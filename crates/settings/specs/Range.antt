@@ -5,7 +5,44 @@ use mathlib.Core.List.{List, [], _∷_}
 use lib.Dec.{eqb, leb}
 use lib.ListN.{take}
 use Rattle.settings.specs.declared.Settings.{Settings}
+use Rattle.settings.specs.declared.Limits.{Limits}
 use Rattle.settings.specs.declared.Stations.{Stations}
+
+-- own address and stations, 0 to 253
+abbrev pub lastAddress : ℕ
+lastAddress = 253
+
+-- maximum cell voltage, 0.01 V, 200 to 500
+abbrev pub leastCell : ℕ
+leastCell = 200
+
+abbrev pub mostCell : ℕ
+mostCell = 500
+
+-- maximum current, 0.1 A, 60 to 4000
+abbrev pub leastCurrent : ℕ
+leastCurrent = 60
+
+abbrev pub mostCurrent : ℕ
+mostCurrent = 4000
+
+-- maximum pack voltage, 0.1 V, 1 to 65535
+abbrev pub leastPack : ℕ
+leastPack = 1
+
+abbrev pub mostPack : ℕ
+mostPack = 65535
+
+-- maximum cell temperature, raw 0 to 255
+abbrev pub mostTemperature : ℕ
+mostTemperature = 255
+
+-- stations, 1 to 4 bytes
+abbrev pub leastStations : ℕ
+leastStations = 1
+
+abbrev pub mostStations : ℕ
+mostStations = 4
 
 -- from `least` to `most`, both included
 unfoldable pub within : ℕ → ℕ → ℕ → Bool
@@ -27,17 +64,19 @@ distinct (a ∷ l) = lacks a l && distinct l
 -- each of them is 0 to 253 and not our own
 abbrev pub eachGood : ℕ → List ℕ → Bool
 eachGood own [] = true
-eachGood own (a ∷ l) = (leb a 253 && not (eqb a own)) && eachGood own l
+eachGood own (a ∷ l) = (leb a lastAddress && not (eqb a own)) && eachGood own l
 
 -- 1 to 4 of them, distinct, 0 to 253, none our own
 unfoldable pub goodStations : ℕ → Stations → Bool
-goodStations own s = within 1 4 (s .count) && (distinct (stationList s) && eachGood own (stationList s))
+goodStations own s = within leastStations mostStations (s .count) && (distinct (stationList s) && eachGood own (stationList s))
+
+-- the maxima, in the order of the tags
+unfoldable pub limitsInRange : Limits → Bool
+limitsInRange l =
+    within leastCell mostCell (l .cell .0)
+    && (within leastCurrent mostCurrent (l .current .0)
+    && (within leastPack mostPack (l .pack .0) && within 0 mostTemperature (l .temperature .0)))
 
 -- every value in its range, in the order of the tags
 unfoldable pub inRange : Settings → Bool
-inRange x =
-    within 0 253 (x .own)
-    && (within 200 500 (x .cell .0)
-    && (within 60 4000 (x .current)
-    && (within 1 65535 (x .pack .0)
-    && (within 0 255 (x .temperature) && goodStations (x .own) (x .stations)))))
+inRange x = within 0 lastAddress (x .own) && (limitsInRange (x .limits) && goodStations (x .own) (x .stations))

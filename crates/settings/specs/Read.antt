@@ -7,11 +7,12 @@ use lib.Dec.{eqb, ltb}
 use lib.ListN.{length, getD}
 use Rattle.buffers.specs.Words.{wordAt}
 use Rattle.settings.specs.declared.Settings.{Settings}
+use Rattle.settings.specs.declared.Limits.{Limits}
 use Rattle.settings.specs.declared.Stations.{Stations}
 use Rattle.settings.specs.declared.Versions.{Versions}
 use Rattle.settings.specs.declared.SettingsRead.{SettingsRead}
 use Rattle.settings.specs.declared.SettingsRead.the-variants.{Read, Refused}
-use Rattle.settings.specs.Range.{within, inRange}
+use Rattle.settings.specs.Range.{leastStations, mostStations, within, inRange}
 
 -- a field's one-byte tag and two-byte length stand at a place
 unfoldable pub headAt : List ℕ → ℕ → ℕ → ℕ → Bool
@@ -24,7 +25,7 @@ stationCount s = wordAt s 25
 -- fields in their order, each once, nothing after
 unfoldable pub layoutOf : List ℕ → Bool
 layoutOf s =
-    within 1 4 (stationCount s)
+    within leastStations mostStations (stationCount s)
     && (eqb (length s) (35 + stationCount s)
     && (headAt s 0 1 1
     && (headAt s 4 2 2
@@ -50,15 +51,22 @@ versionsAt s at =
       fifth = getD s (at + 4) 0;
     }
 
+-- the maxima of a record whose layout is right: the words of tags 2 to 5
+unfoldable pub limitsOf : List ℕ → Limits
+limitsOf s =
+    record {
+      cell = record { 0 = wordAt s 7 };
+      current = record { 0 = wordAt s 12 };
+      pack = record { 0 = wordAt s 17 };
+      temperature = record { 0 = wordAt s 22 };
+    }
+
 -- the values of a record whose layout is right
 unfoldable pub settingsOf : List ℕ → Settings
 settingsOf s =
     record {
       own = getD s 3 0;
-      cell = record { 0 = wordAt s 7 };
-      current = wordAt s 12;
-      pack = record { 0 = wordAt s 17 };
-      temperature = wordAt s 22;
+      limits = limitsOf s;
       stations = stationsAt s (stationCount s);
       versions = versionsAt s (30 + stationCount s);
     }

@@ -18,8 +18,8 @@ versionList v = v .first ∷ v .second ∷ v .third ∷ v .fourth ∷ v .fifth �
 unfoldable pub recordOf : Settings → List ℕ
 recordOf x =
     field 1 (x .own ∷ [])
-    ++ (field 2 (wordBytes (x .cell .0))
-    ++ (field 3 (wordBytes (x .current))
-    ++ (field 4 (wordBytes (x .pack .0))
-    ++ (field 5 (wordBytes (x .temperature))
+    ++ (field 2 (wordBytes (x .limits .cell .0))
+    ++ (field 3 (wordBytes (x .limits .current .0))
+    ++ (field 4 (wordBytes (x .limits .pack .0))
+    ++ (field 5 (wordBytes (x .limits .temperature .0))
     ++ (field 6 (stationList (x .stations)) ++ field 7 (versionList (x .versions)))))))

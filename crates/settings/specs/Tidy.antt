@@ -21,17 +21,13 @@ tidyStations s =
       fourth = placed (s .count) 3 (s .fourth);
     }
 
+-- the settings with other stations
+abbrev pub withStations : Settings → Stations → Settings
+withStations x stations =
+    record { own = x .own; limits = x .limits; stations = stations; versions = x .versions }
+
 abbrev pub tidy : Settings → Settings
-tidy x =
-    record {
-      own = x .own;
-      cell = x .cell;
-      current = x .current;
-      pack = x .pack;
-      temperature = x .temperature;
-      stations = tidyStations (x .stations);
-      versions = x .versions;
-    }
+tidy x = withStations x (tidyStations (x .stations))
 
 -- every number of the list is a byte
 unfoldable pub Bytes : List ℕ → Type 0

@@ -1,6 +1,8 @@
-// The settings record: read from bytes and written as bytes, and the range of each value (01, "Settings record", numbers 1, 2 and
-// 17). Reading and writing take anything: any bytes, any settings value, any buffer. This crate may not know frames or sessions.
+// The settings record: read from bytes and written as bytes, and the range of each value (01, "Settings record", numbers 1, 2
+// and 17). Reading and writing take anything: any bytes, any settings value, any buffer. This crate may not know frames or sessions.
 use units::HundredthVolts;
+use units::SentDegrees;
+use units::TenthAmps;
 use units::TenthVolts;
 
 pub mod range;
@@ -24,13 +26,18 @@ pub struct Versions {
     pub fifth: u8,
 }
 
-// Own address, then the maximum cell voltage, current (0.1 A), pack voltage and cell temperature (raw), stations and versions.
+// The four maxima: of a cell's voltage, of the current, of the pack voltage and of a cell's temperature.
+pub struct Limits {
+    pub cell: HundredthVolts,
+    pub current: TenthAmps,
+    pub pack: TenthVolts,
+    pub temperature: SentDegrees,
+}
+
+// Own address, the maxima, the stations and the versions, in the order of the record.
 pub struct Settings {
     pub own: u8,
-    pub cell: HundredthVolts,
-    pub current: u16,
-    pub pack: TenthVolts,
-    pub temperature: u16,
+    pub limits: Limits,
     pub stations: Stations,
     pub versions: Versions,
 }

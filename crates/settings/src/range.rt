@@ -1,8 +1,30 @@
 // Whether every value of the settings is in its range (01, "Settings record", number 2).
 ghost use mathlib.Core.Path.{_≡_};
-ghost use Rattle.settings.specs.Range.{within, goodStations, inRange};
+ghost use Rattle.settings.specs.Range.{within, goodStations, limitsInRange, inRange};
+use crate::Limits;
 use crate::Settings;
 use crate::Stations;
+
+// The ranges, as the paper has them: what is not named begins at 0.
+pub const LAST_ADDRESS: u8 = 253;
+
+pub const LEAST_CELL: u16 = 200;
+
+pub const MOST_CELL: u16 = 500;
+
+pub const LEAST_CURRENT: u16 = 60;
+
+pub const MOST_CURRENT: u16 = 4000;
+
+pub const LEAST_PACK: u16 = 1;
+
+pub const MOST_PACK: u16 = 65535;
+
+pub const MOST_TEMPERATURE: u16 = 255;
+
+pub const LEAST_STATIONS: u16 = 1;
+
+pub const MOST_STATIONS: u16 = 4;
 
 pub fn within(least: u16, most: u16, n: u16) -> bool
     ensures { λ r. ⌜ r ≡ within least most n ⌝ }
@@ -19,10 +41,10 @@ fn good_stations(own: u8, s: Stations) -> bool
     let c = s.third;
     let d = s.fourth;
     let n = s.count;
-    let pa = (a <= 253) & (a != own);
-    let pb = (b <= 253) & (b != own);
-    let pc = (c <= 253) & (c != own);
-    let pd = (d <= 253) & (d != own);
+    let pa = (a <= LAST_ADDRESS) & (a != own);
+    let pb = (b <= LAST_ADDRESS) & (b != own);
+    let pc = (c <= LAST_ADDRESS) & (c != own);
+    let pd = (d <= LAST_ADDRESS) & (d != own);
     match n {
         1 => pa,
         2 => (a != b) & (pa & pb),
@@ -35,14 +57,22 @@ fn good_stations(own: u8, s: Stations) -> bool
     }
 }
 
+// Each of the maxima.
+fn limits_in_range(l: Limits) -> bool
+    ensures { λ r. ⌜ r ≡ limitsInRange l ⌝ }
+{
+    let cell = within(LEAST_CELL, MOST_CELL, l.cell.0);
+    let current = within(LEAST_CURRENT, MOST_CURRENT, l.current.0);
+    let pack = within(LEAST_PACK, MOST_PACK, l.pack.0);
+    let temperature = within(0, MOST_TEMPERATURE, l.temperature.0);
+    cell & (current & (pack & temperature))
+}
+
 pub fn in_range(x: Settings) -> bool
     ensures { λ r. ⌜ r ≡ inRange x ⌝ }
 {
-    let own = within(0, 253, x.own as u16);
-    let cell = within(200, 500, x.cell.0);
-    let current = within(60, 4000, x.current);
-    let pack = within(1, 65535, x.pack.0);
-    let temperature = within(0, 255, x.temperature);
+    let own = within(0, LAST_ADDRESS as u16, x.own as u16);
+    let limits = limits_in_range(x.limits);
     let stations = good_stations(x.own, x.stations);
-    own & (cell & (current & (pack & (temperature & stations))))
+    own & (limits & stations)
 }

@@ -1,13 +1,16 @@
 // A settings record read: the whole layout first, then the ranges (01, "Settings record", numbers 1 and 2).
 ghost use mathlib.Core.Path.{_≡_};
 ghost use Prim.Native.Nat.{_≤_};
-ghost use Rattle.settings.specs.Read.{headAt, layoutOf, stationAt, stationsAt, versionsAt, settingsOf, recordNumber, answerNumber, readOf};
+ghost use Rattle.settings.specs.Read.{headAt, layoutOf, stationAt, stationsAt, versionsAt, limitsOf, settingsOf, recordNumber, answerNumber, readOf};
+use crate::Limits;
 use crate::Settings;
 use crate::SettingsRead;
 use crate::Stations;
 use crate::Versions;
 use crate::range;
 use units::HundredthVolts;
+use units::SentDegrees;
+use units::TenthAmps;
 use units::TenthVolts;
 
 // A field's tag and its two-byte length at a place.
@@ -25,7 +28,7 @@ fn layout(s: &[u8]) -> bool
     ensures { λ r. ⌜ r ≡ layoutOf (now (s .entry)) ⌝ }
 {
     let n = buffers::word_at(s, 25);
-    let some = range::within(1, 4, n);
+    let some = range::within(range::LEAST_STATIONS, range::MOST_STATIONS, n);
     if some {
         let k = n as usize;
         let a = head(s, 0, 1, 1);
@@ -77,6 +80,18 @@ fn versions(s: &[u8], at: usize) -> Versions
     }
 }
 
+// The maxima of a record whose layout is right.
+fn limits(s: &[u8]) -> Limits
+    ensures { λ r. ⌜ r ≡ limitsOf (now (s .entry)) ⌝ }
+{
+    Limits {
+        cell: HundredthVolts(buffers::word_at(s, 7)),
+        current: TenthAmps(buffers::word_at(s, 12)),
+        pack: TenthVolts(buffers::word_at(s, 17)),
+        temperature: SentDegrees(buffers::word_at(s, 22)),
+    }
+}
+
 // The values of a record whose layout is right.
 fn values(s: &[u8]) -> Settings
     ensures { λ r. ⌜ r ≡ settingsOf (now (s .entry)) ⌝ }
@@ -84,10 +99,7 @@ fn values(s: &[u8]) -> Settings
     let n = buffers::word_at(s, 25);
     Settings {
         own: buffers::byte_at(s, 3),
-        cell: HundredthVolts(buffers::word_at(s, 7)),
-        current: buffers::word_at(s, 12),
-        pack: TenthVolts(buffers::word_at(s, 17)),
-        temperature: buffers::word_at(s, 22),
+        limits: limits(s),
         stations: stations(s, n),
         versions: versions(s, 30 + n as usize),
     }

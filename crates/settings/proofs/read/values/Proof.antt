@@ -10,17 +10,8 @@ word-at-requires c κs = search needs
 byte-at-requires : tie.Need-byte-at-requires
 byte-at-requires c κs = search needs
 
-word-at-requires-2 : tie.Need-word-at-requires-2
-word-at-requires-2 c κs = search needs
-
-word-at-requires-3 : tie.Need-word-at-requires-3
-word-at-requires-3 c κs = search needs
-
-word-at-requires-4 : tie.Need-word-at-requires-4
-word-at-requires-4 c κs = search needs
-
-word-at-requires-5 : tie.Need-word-at-requires-5
-word-at-requires-5 c κs = search needs
+limits-requires : tie.Need-limits-requires
+limits-requires c κs = search needs
 
 stations-requires : tie.Need-stations-requires
 stations-requires c κs = search needs
@@ -36,7 +27,7 @@ versions-requires c κs = search needs
 
 returns : tie.Need-returns
 unfolding settingsOf
-returns c = rw (c .versions .ensures, c .before .stations .ensures, c .before .before .word-at5 .ensures, c .before .before .before .word-at4 .ensures, c .before .before .before .before .word-at3 .ensures, c .before .before .before .before .before .word-at2 .ensures, c .before .before .before .before .before .before .byte-at .ensures, c .before .before .before .before .before .before .before .word-at .ensures)
+returns c = rw (c .versions .ensures, c .before .stations .ensures, c .before .before .limits .ensures, c .before .before .before .byte-at .ensures, c .before .before .before .before .word-at .ensures)
 
 pub values-spec : {M : Type 1} → statement M
 values-spec =
@@ -44,10 +35,7 @@ values-spec =
     (tie.spec
     word-at-requires
     byte-at-requires
-    word-at-requires-2
-    word-at-requires-3
-    word-at-requires-4
-    word-at-requires-5
+    limits-requires
     stations-requires
     cast-versions
     add-versions

@@ -1,55 +1,55 @@
 -- `settings::write::front` meets its contract: tags 1 to 5, and the head of tag 6. Assumes nothing.
-use mathlib.Core.Path.{refl}
 use Rattle.settings.proofs.Laws.{record-front}
+use mathlib.Core.Path.{refl}
 use borrow.Author.Needs.{needs}
 use Rattle.settings.proofs.write.front.Statement.{statement}
 use Rattle.settings.proofs.write.front.Tie as tie
 
-cast-t4 : tie.Need-cast-t4
-cast-t4 c = search needs
+cast-t5 : tie.Need-cast-t5
+cast-t5 c = search needs
 
-cast-t6 : tie.Need-cast-t6
-cast-t6 c = search needs
+cast-t7 : tie.Need-cast-t7
+cast-t7 c = search needs
 
-cast-t8 : tie.Need-cast-t8
-cast-t8 c = search needs
+cast-t9 : tie.Need-cast-t9
+cast-t9 c = search needs
 
-cast-t10 : tie.Need-cast-t10
-cast-t10 c = search needs
+cast-t11 : tie.Need-cast-t11
+cast-t11 c = search needs
 
-cast-t12 : tie.Need-cast-t12
-cast-t12 c = search needs
+cast-t13 : tie.Need-cast-t13
+cast-t13 c = search needs
 
-cast-t14 : tie.Need-cast-t14
-cast-t14 c = search needs
+cast-t15 : tie.Need-cast-t15
+cast-t15 c = search needs
 
-cast-t16 : tie.Need-cast-t16
-cast-t16 c = search needs
+cast-t17 : tie.Need-cast-t17
+cast-t17 c = search needs
 
-cast-t18 : tie.Need-cast-t18
-cast-t18 c = search needs
+cast-t19 : tie.Need-cast-t19
+cast-t19 c = search needs
 
-cast-t20 : tie.Need-cast-t20
-cast-t20 c = search needs
+cast-t21 : tie.Need-cast-t21
+cast-t21 c = search needs
 
-cast-t22 : tie.Need-cast-t22
-cast-t22 c = search needs
+cast-t23 : tie.Need-cast-t23
+cast-t23 c = search needs
 
 returns : tie.Need-returns
-returns c = (refl, record-front _ (c .before .before .before .before .before .before .before .before .pre))
+returns c = (refl, record-front _ (c .before .before .before .before .before .before .before .before .before .pre))
 
 pub front-spec : {M : Type 1} → statement M
 front-spec =
     tie.close
     (tie.spec
-    cast-t4
-    cast-t6
-    cast-t8
-    cast-t10
-    cast-t12
-    cast-t14
-    cast-t16
-    cast-t18
-    cast-t20
-    cast-t22
+    cast-t5
+    cast-t7
+    cast-t9
+    cast-t11
+    cast-t13
+    cast-t15
+    cast-t17
+    cast-t19
+    cast-t21
+    cast-t23
     returns)
