@@ -9,6 +9,7 @@ use denote.Enum.Declared.{tagOf}
 use Rattle.charge_messages.proofs.ChargeMessage.{the-type}
 use Rattle.charge_messages.specs.declared.ChargeMessage.{ChargeMessage}
 use Rattle.charge_messages.specs.declared.ChargeMessage.the-variants.{Cim, Cvm, Cmp, Crm, Ccs, Cst, Cem}
+use Rattle.units.specs.declared.TenthAmps.{TenthAmps}
 use Rattle.settings.specs.declared.Settings.{Settings}
 use Rattle.session_states.specs.declared.states.Est.{Est}
 use Rattle.session_by_message.specs.declared.Outcome.the-variants.{Refuse, OutOfStep}
@@ -59,16 +60,16 @@ rest-parameters x count (Cst b) h = absurd (miss (3 ∷ 4 ∷ []) 5 tt h)
 rest-parameters x count Cem h = absurd (miss (3 ∷ 4 ∷ []) 6 tt h)
 
 pub rest-ready :
-    (x : Settings) (accepted : Bool) (most count : ℕ) (m : ChargeMessage) →
-    OneOf (1 ∷ 4 ∷ []) (tagOf the-type m) → OutOfStep ≡ inReady x accepted most count m
+    (x : Settings) (accepted : Bool) (maximum : TenthAmps) (count : ℕ) (m : ChargeMessage) →
+    OneOf (1 ∷ 4 ∷ []) (tagOf the-type m) → OutOfStep ≡ inReady x accepted maximum count m
 unfolding inReady
-rest-ready x accepted most count Cim h = absurd (miss (1 ∷ 4 ∷ []) 0 tt h)
-rest-ready x accepted most count (Cvm b) h = refl
-rest-ready x accepted most count (Cmp o) h = absurd (miss (1 ∷ 4 ∷ []) 2 tt h)
-rest-ready x accepted most count (Crm b) h = absurd (miss (1 ∷ 4 ∷ []) 3 tt h)
-rest-ready x accepted most count (Ccs b) h = refl
-rest-ready x accepted most count (Cst b) h = absurd (miss (1 ∷ 4 ∷ []) 5 tt h)
-rest-ready x accepted most count Cem h = absurd (miss (1 ∷ 4 ∷ []) 6 tt h)
+rest-ready x accepted maximum count Cim h = absurd (miss (1 ∷ 4 ∷ []) 0 tt h)
+rest-ready x accepted maximum count (Cvm b) h = refl
+rest-ready x accepted maximum count (Cmp o) h = absurd (miss (1 ∷ 4 ∷ []) 2 tt h)
+rest-ready x accepted maximum count (Crm b) h = absurd (miss (1 ∷ 4 ∷ []) 3 tt h)
+rest-ready x accepted maximum count (Ccs b) h = refl
+rest-ready x accepted maximum count (Cst b) h = absurd (miss (1 ∷ 4 ∷ []) 5 tt h)
+rest-ready x accepted maximum count Cem h = absurd (miss (1 ∷ 4 ∷ []) 6 tt h)
 
 pub rest-charging : (m : ChargeMessage) → OneOf (0 ∷ 1 ∷ 2 ∷ 3 ∷ []) (tagOf the-type m) → Refuse ≡ inCharging m
 unfolding inCharging

@@ -11,8 +11,14 @@ enum-known-m c = search needs
 enum-told : tie.Need-enum-told
 enum-told c = search needs
 
+stop-by-cst-requires : tie.Need-stop-by-cst-requires
+stop-by-cst-requires c κs = search needs
+
 enum-told-2 : tie.Need-enum-told-2
 enum-told-2 c = search needs
+
+end-by-cem-requires : tie.Need-end-by-cem-requires
+end-by-cem-requires c κs = search needs
 
 returns : tie.Need-returns
 unfolding inCharging
@@ -24,11 +30,11 @@ returns-2 c = rw (c .before .before .m .given .1, c .if1 .left)
 
 returns-3 : tie.Need-returns-3
 unfolding inCharging
-returns-3 c = rw (c .enum-told .given .1)
+returns-3 c = rw (c .before .enum-told .given .1) (c .stop-by-cst .ensures)
 
 returns-4 : tie.Need-returns-4
 unfolding inCharging
-returns-4 c = search needs
+returns-4 c = rw (c .before .enum-told2 .given .1) (c .end-by-cem .ensures)
 
 returns-5 : tie.Need-returns-5
 returns-5 c = rest-charging (c .before .args .m) (c .match .keys4)
@@ -36,4 +42,14 @@ returns-5 c = rest-charging (c .before .args .m) (c .match .keys4)
 pub in-charging-spec : {M : Type 1} → statement M
 in-charging-spec =
     tie.close
-    (tie.spec enum-known-m enum-told enum-told-2 returns returns-2 returns-3 returns-4 returns-5)
+    (tie.spec
+    enum-known-m
+    enum-told
+    stop-by-cst-requires
+    enum-told-2
+    end-by-cem-requires
+    returns
+    returns-2
+    returns-3
+    returns-4
+    returns-5)

@@ -15,12 +15,18 @@ enum-known-m c = search needs
 enum-told-2 : tie.Need-enum-told-2
 enum-told-2 c = search needs
 
+stop-by-cst-requires : tie.Need-stop-by-cst-requires
+stop-by-cst-requires c κs = search needs
+
 enum-told-3 : tie.Need-enum-told-3
 enum-told-3 c = search needs
 
+end-by-cem-requires : tie.Need-end-by-cem-requires
+end-by-cem-requires c κs = search needs
+
 returns : tie.Need-returns
 unfolding inOffered
-returns c = search needs
+returns c = rw (c .enum-told .given .1)
 
 returns-2 : tie.Need-returns-2
 unfolding inOffered
@@ -36,11 +42,11 @@ returns-4 c = rw (c .before .before .m .given .1, le-ltb _ _ (c .if1 .left))
 
 returns-5 : tie.Need-returns-5
 unfolding inOffered
-returns-5 c = rw (c .enum-told2 .given .1)
+returns-5 c = rw (c .before .enum-told2 .given .1) (c .stop-by-cst .ensures)
 
 returns-6 : tie.Need-returns-6
 unfolding inOffered
-returns-6 c = search needs
+returns-6 c = rw (c .before .enum-told3 .given .1) (c .end-by-cem .ensures)
 
 returns-7 : tie.Need-returns-7
 returns-7 c = rest-offered (c .before .args .count) (c .before .args .m) (c .match .keys5)
@@ -52,7 +58,9 @@ in-offered-spec =
     enum-told
     enum-known-m
     enum-told-2
+    stop-by-cst-requires
     enum-told-3
+    end-by-cem-requires
     returns
     returns-2
     returns-3

@@ -21,8 +21,14 @@ ready-requires c κs = search needs
 enum-told-2 : tie.Need-enum-told-2
 enum-told-2 c = search needs
 
+stop-by-cst-requires : tie.Need-stop-by-cst-requires
+stop-by-cst-requires c κs = search needs
+
 enum-told-3 : tie.Need-enum-told-3
 enum-told-3 c = search needs
+
+end-by-cem-requires : tie.Need-end-by-cem-requires
+end-by-cem-requires c κs = search needs
 
 returns : tie.Need-returns
 unfolding inParameters
@@ -46,11 +52,11 @@ returns-5 c = rw (c .before .before .m2 .given .1, le-ltb 5 _ (c .if2 .left))
 
 returns-6 : tie.Need-returns-6
 unfolding inParameters
-returns-6 c = rw (c .enum-told2 .given .1)
+returns-6 c = rw (c .before .enum-told2 .given .1) (c .stop-by-cst .ensures)
 
 returns-7 : tie.Need-returns-7
 unfolding inParameters
-returns-7 c = rw (c .enum-told3 .given .1)
+returns-7 c = rw (c .before .enum-told3 .given .1) (c .end-by-cem .ensures)
 
 returns-8 : tie.Need-returns-8
 returns-8 c = rest-parameters (c .before .args .x) (c .before .args .count) (c .before .args .m) (c .match .keys6)
@@ -64,7 +70,9 @@ in-parameters-spec =
     enum-known-m-2
     ready-requires
     enum-told-2
+    stop-by-cst-requires
     enum-told-3
+    end-by-cem-requires
     returns
     returns-2
     returns-3

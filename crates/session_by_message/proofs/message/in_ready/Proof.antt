@@ -17,14 +17,20 @@ ready-requires c κs = search needs
 enum-known-m-2 : tie.Need-enum-known-m-2
 enum-known-m-2 c = search needs
 
-ready-crm-requires : tie.Need-ready-crm-requires
-ready-crm-requires c κs = search needs
+crm-in-ready-requires : tie.Need-crm-in-ready-requires
+crm-in-ready-requires c κs = search needs
 
 enum-told-2 : tie.Need-enum-told-2
 enum-told-2 c = search needs
 
+stop-by-cst-requires : tie.Need-stop-by-cst-requires
+stop-by-cst-requires c κs = search needs
+
 enum-told-3 : tie.Need-enum-told-3
 enum-told-3 c = search needs
+
+end-by-cem-requires : tie.Need-end-by-cem-requires
+end-by-cem-requires c κs = search needs
 
 returns : tie.Need-returns
 unfolding inReady
@@ -36,19 +42,18 @@ returns-2 c = rw (c .before .before .m .given .1) (c .ready .ensures)
 
 returns-3 : tie.Need-returns-3
 unfolding inReady
-returns-3 c = rw (c .before .before .m2 .given .1) (c .ready-crm .ensures)
+returns-3 c = rw (c .before .before .m2 .given .1) (c .crm-in-ready .ensures)
 
 returns-4 : tie.Need-returns-4
 unfolding inReady
-returns-4 c = rw (c .enum-told2 .given .1)
+returns-4 c = rw (c .before .enum-told2 .given .1) (c .stop-by-cst .ensures)
 
 returns-5 : tie.Need-returns-5
 unfolding inReady
-returns-5 c = rw (c .enum-told3 .given .1)
+returns-5 c = rw (c .before .enum-told3 .given .1) (c .end-by-cem .ensures)
 
 returns-6 : tie.Need-returns-6
-returns-6 c =
-    let a = c .before .args in rest-ready (a .x) (a .accepted) (a .most) (a .count) (a .m) (c .match .keys6)
+returns-6 c = rest-ready (c .before .args .x) (c .before .args .accepted) (c .before .args .maximum) (c .before .args .count) (c .before .args .m) (c .match .keys6)
 
 pub in-ready-spec : {M : Type 1} → statement M
 in-ready-spec =
@@ -58,9 +63,11 @@ in-ready-spec =
     enum-known-m
     ready-requires
     enum-known-m-2
-    ready-crm-requires
+    crm-in-ready-requires
     enum-told-2
+    stop-by-cst-requires
     enum-told-3
+    end-by-cem-requires
     returns
     returns-2
     returns-3

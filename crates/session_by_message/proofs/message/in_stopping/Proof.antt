@@ -12,6 +12,9 @@ enum-known-m c = search needs
 enum-told : tie.Need-enum-told
 enum-told c = search needs
 
+end-by-cem-requires : tie.Need-end-by-cem-requires
+end-by-cem-requires c κs = search needs
+
 returns : tie.Need-returns
 unfolding inStopping
 returns c = rw (c .before .before .before .m .given .1, c .before .if1 .taken, lt-ltb _ _ (c .if2 .taken))
@@ -26,11 +29,20 @@ returns-3 c = rw (c .before .before .m .given .1, c .if1 .left)
 
 returns-4 : tie.Need-returns-4
 unfolding inStopping
-returns-4 c = search needs
+returns-4 c = rw (c .before .enum-told .given .1) (c .end-by-cem .ensures)
 
 returns-5 : tie.Need-returns-5
 returns-5 c = rest-stopping (c .before .args .est) (c .before .args .count) (c .before .args .m) (c .match .keys3)
 
 pub in-stopping-spec : {M : Type 1} → statement M
 in-stopping-spec =
-    tie.close (tie.spec enum-known-m enum-told returns returns-2 returns-3 returns-4 returns-5)
+    tie.close
+    (tie.spec
+    enum-known-m
+    enum-told
+    end-by-cem-requires
+    returns
+    returns-2
+    returns-3
+    returns-4
+    returns-5)

@@ -14,12 +14,18 @@ enum-known-m c = search needs
 enum-told-2 : tie.Need-enum-told-2
 enum-told-2 c = search needs
 
+stop-by-cst-requires : tie.Need-stop-by-cst-requires
+stop-by-cst-requires c κs = search needs
+
 enum-told-3 : tie.Need-enum-told-3
 enum-told-3 c = search needs
 
+end-by-cem-requires : tie.Need-end-by-cem-requires
+end-by-cem-requires c κs = search needs
+
 returns : tie.Need-returns
 unfolding inUnverified
-returns c = search needs
+returns c = rw (c .enum-told .given .1)
 
 returns-2 : tie.Need-returns-2
 unfolding inUnverified
@@ -31,11 +37,11 @@ returns-3 c = rw (c .before .before .m .given .1, c .if1 .left)
 
 returns-4 : tie.Need-returns-4
 unfolding inUnverified
-returns-4 c = rw (c .enum-told2 .given .1)
+returns-4 c = rw (c .before .enum-told2 .given .1) (c .stop-by-cst .ensures)
 
 returns-5 : tie.Need-returns-5
 unfolding inUnverified
-returns-5 c = search needs
+returns-5 c = rw (c .before .enum-told3 .given .1) (c .end-by-cem .ensures)
 
 returns-6 : tie.Need-returns-6
 returns-6 c = rest-unverified (c .before .args .m) (c .match .keys5)
@@ -47,7 +53,9 @@ in-unverified-spec =
     enum-told
     enum-known-m
     enum-told-2
+    stop-by-cst-requires
     enum-told-3
+    end-by-cem-requires
     returns
     returns-2
     returns-3

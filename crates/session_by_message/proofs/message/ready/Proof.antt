@@ -7,12 +7,12 @@ use Rattle.session_by_message.proofs.message.ready.Tie as tie
 accepted-requires : tie.Need-accepted-requires
 accepted-requires c κs = search needs
 
-station-most-requires : tie.Need-station-most-requires
-station-most-requires c κs = search needs
+station-maximum-requires : tie.Need-station-maximum-requires
+station-maximum-requires c κs = search needs
 
 returns : tie.Need-returns
 unfolding readyOf
-returns c = rw (c .before .accepted .ensures, c .station-most .ensures)
+returns c = rw (c .before .accepted .ensures, c .station-maximum .ensures)
 
 pub ready-spec : {M : Type 1} → statement M
-ready-spec = tie.close (tie.spec accepted-requires station-most-requires returns)
+ready-spec = tie.close (tie.spec accepted-requires station-maximum-requires returns)

@@ -1,20 +1,42 @@
--- `offer::accepted` meets its contract: the rule on signed currents is the tests on raw words. Assumes nothing.
-use Rattle.session_by_message.proofs.Currents.{accepted-words}
+-- `offer::accepted` meets its contract. Assumes nothing.
+use Rattle.session_by_message.proofs.Currents.{accepted-signed}
 use borrow.Author.Needs.{needs}
 use Rattle.session_by_message.proofs.offer.accepted.Statement.{statement}
 use Rattle.session_by_message.proofs.offer.accepted.Tie as tie
 
-cast-result : tie.Need-cast-result
-cast-result c = search needs
+offered-requires : tie.Need-offered-requires
+offered-requires c κs = search needs
 
-cast-result-2 : tie.Need-cast-result-2
-cast-result-2 c = search needs
+at-least-requires : tie.Need-at-least-requires
+at-least-requires c κs = search needs
 
-add-result : tie.Need-add-result
-add-result c = search needs
+at-least-requires-2 : tie.Need-at-least-requires-2
+at-least-requires-2 c κs = search needs
+
+at-most-requires : tie.Need-at-most-requires
+at-most-requires c κs = search needs
+
+offered-requires-2 : tie.Need-offered-requires-2
+offered-requires-2 c κs = search needs
+
+at-most-requires-2 : tie.Need-at-most-requires-2
+at-most-requires-2 c κs = search needs
+
+at-most-requires-3 : tie.Need-at-most-requires-3
+at-most-requires-3 c κs = search needs
 
 returns : tie.Need-returns
-returns c = let a = c .before .before .before .before .before .before .before .before .args in accepted-words (a .x) (a .o)
+returns c = rw (c .before .before .before .before .before .at-least .ensures, c .before .before .before .before .at-least2 .ensures, c .before .before .before .at-most .ensures, c .before .at-most2 .ensures, c .at-most3 .ensures) (accepted-signed _ _ _ _ (c .before .before .before .before .before .before .offered .ensures) (c .before .before .offered2 .ensures))
 
 pub accepted-spec : {M : Type 1} → statement M
-accepted-spec = tie.close (tie.spec cast-result cast-result-2 add-result returns)
+accepted-spec =
+    tie.close
+    (tie.spec
+    offered-requires
+    at-least-requires
+    at-least-requires-2
+    at-most-requires
+    offered-requires-2
+    at-most-requires-2
+    at-most-requires-3
+    returns)
