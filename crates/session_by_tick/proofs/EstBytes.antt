@@ -5,19 +5,20 @@ use mathlib.Core.Bool.{Bool, true, false, cond}
 use lib.Dec.{leb}
 use Rattle.settings.specs.declared.Settings.{Settings}
 use Rattle.readings.specs.declared.Readings.{Readings}
-use Rattle.readings.specs.Readings.{wantedOf, aboveOf}
+use Rattle.readings.specs.Readings.{wantedOf}
 use Rattle.cells.specs.declared.Cells.{Cells}
 use Rattle.session_states.specs.declared.phases.Phase.{Phase}
-use Rattle.session_states.specs.declared.phases.Turned.{Turned}
-use Rattle.session_states.specs.declared.phases.Turned.the-variants as turned
-use Rattle.session_states.specs.Phases.{turnedOf}
+use Rattle.session_states.specs.declared.phases.PhaseAfter.{PhaseAfter}
+use Rattle.session_states.specs.declared.phases.PhaseAfter.the-variants as phase
+use Rattle.session_states.specs.Limits.{silenceLimit, closingLimit}
+use Rattle.session_states.specs.Phases.{phaseAfter}
 use Rattle.session_states.specs.declared.states.Est.{Est}
 use Rattle.session_states.specs.declared.states.Est.the-variants.{Awaited, Fixed}
 use Rattle.session_states.specs.declared.states.State.{State}
 use Rattle.session_states.specs.declared.states.State.the-variants.{Idle, Offered, Unverified, Parameters, Ready, Charging, Stopping, Error}
 use Rattle.session_by_tick.specs.declared.Turn.{Turn}
 use Rattle.session_by_tick.specs.declared.Turn.the-variants.{On, Enter, Farewell, End}
-use Rattle.session_by_tick.specs.Turns.{packFull, cellFull, estOf, stopOf, waitingOf, phaseOn, phaseTurn, stopsOf, chargingOf, estThen, stoppingOf, errorOf, turnOf}
+use Rattle.session_by_tick.specs.Turns.{packFull, currentAbove, cellFull, estOf, stopOf, waitingOf, phaseOn, phaseTurn, stopsOf, chargingOf, estThen, stoppingOf, errorOf, turnOf}
 
 -- the EST bytes of a state are fixed, where it is Stopping
 abbrev pub fixedEst : Est → Bool
@@ -46,22 +47,22 @@ either true t u h k = h
 either false t u h k = k
 
 module _ (x : Settings) (r : Readings) (c : Cells) where
-  phase-on : (t : Turned) → fixedAfter (phaseOn x r c t) ≡ true
+  phase-on : (t : PhaseAfter) → fixedAfter (phaseOn x r c t) ≡ true
   unfolding phaseOn stopOf estOf
-  phase-on (turned.On p) = refl
-  phase-on (turned.Stop cause) = refl
+  phase-on (phase.On p) = refl
+  phase-on (phase.Stop cause) = refl
 
   charging : (silence : ℕ) (p : Phase) → fixedAfter (chargingOf x r c silence p) ≡ true
   unfolding chargingOf stopsOf stopOf estOf phaseTurn
   charging silence p =
-      either (leb 200 silence) _ _ refl
+      either (leb silenceLimit silence) _ _ refl
       (either (wantedOf r) _ _
-      (either (aboveOf (r .current) (x .current)) _ _ refl
-      (either (packFull x r) _ _ refl (phase-on (turnedOf p (cellFull x c))))) refl)
+      (either (currentAbove x r) _ _ refl
+      (either (packFull x r) _ _ refl (phase-on (phaseAfter p (cellFull x c))))) refl)
 
   waiting : (silence : ℕ) (st : State) → fixedIn st ≡ true → fixedAfter (waitingOf r silence st) ≡ true
   unfolding waitingOf
-  waiting silence st h = either (leb 200 silence) _ _ refl (either (wantedOf r) _ _ h refl)
+  waiting silence st h = either (leb silenceLimit silence) _ _ refl (either (wantedOf r) _ _ h refl)
 
   est-then : (est : Est) → fixedEst (estThen x r c est) ≡ true
   unfolding estThen estOf
@@ -81,5 +82,5 @@ module _ (x : Settings) (r : Readings) (c : Cells) where
   turn-fixes-est Parameters count silence = waiting silence Parameters refl
   turn-fixes-est (Ready a b) count silence = waiting silence (Ready a b) refl
   turn-fixes-est (Charging p) count silence = charging silence p
-  turn-fixes-est (Stopping a est) count silence = either (leb 600 count) _ _ refl (est-then est)
-  turn-fixes-est Error count silence = either (leb 600 count) _ _ refl refl
+  turn-fixes-est (Stopping a est) count silence = either (leb closingLimit count) _ _ refl (est-then est)
+  turn-fixes-est Error count silence = either (leb closingLimit count) _ _ refl refl

@@ -9,9 +9,10 @@ use Rattle.cells.specs.declared.Cells.{Cells}
 use Rattle.session_states.specs.declared.phases.Phase.{Phase}
 use Rattle.session_states.specs.declared.phases.Cause.{Cause}
 use Rattle.session_states.specs.declared.phases.Cause.the-variants.{PackVoltage, HoldCell, Other}
-use Rattle.session_states.specs.declared.phases.Turned.{Turned}
-use Rattle.session_states.specs.declared.phases.Turned.the-variants as turned
-use Rattle.session_states.specs.Phases.{turnedOf}
+use Rattle.session_states.specs.declared.phases.PhaseAfter.{PhaseAfter}
+use Rattle.session_states.specs.declared.phases.PhaseAfter.the-variants as phase
+use Rattle.session_states.specs.Limits.{silenceLimit, closingLimit}
+use Rattle.session_states.specs.Phases.{phaseAfter}
 use Rattle.session_states.specs.declared.states.Est.{Est}
 use Rattle.session_states.specs.declared.states.Est.the-variants.{Awaited, Fixed}
 use Rattle.session_states.specs.declared.states.State.{State}
@@ -21,11 +22,15 @@ use Rattle.session_by_tick.specs.declared.Turn.the-variants.{On, Enter, 
 
 -- highest cell at or above maximum
 unfoldable pub cellFull : Settings → Cells → Bool
-cellFull x c = leb (x .cell .0) (c .volts .highest .value)
+cellFull x c = leb (x .limits .cell .0) (c .volts .highest .value)
 
 -- pack voltage at or above maximum
 unfoldable pub packFull : Settings → Readings → Bool
-packFull x r = leb (x .pack .0) (r .pack .0)
+packFull x r = leb (x .limits .pack .0) (r .pack .0)
+
+-- current above maximum
+unfoldable pub currentAbove : Settings → Readings → Bool
+currentAbove x r = aboveOf (r .current) (x .limits .current .0)
 
 -- the cause is neither pack voltage nor a cell in Hold
 unfoldable pub isOther : Cause → Bool
@@ -41,7 +46,7 @@ estFirst x r c cause =
 
 -- byte 2 is 01 if current is above maximum, else 00
 unfoldable pub estSecond : Settings → Readings → ℕ
-estSecond x r = cond (aboveOf (r .current) (x .current)) 0x01 0
+estSecond x r = cond (currentAbove x r) 0x01 0
 
 -- bytes 1 and 2, fixed by this tick's readings and the cause
 unfoldable pub estOf : Settings → Readings → Cells → Cause → Est
@@ -53,26 +58,26 @@ stopOf x r c cause = Enter (Stopping false (estOf x r c cause))
 
 -- Offered to Ready, in order: silence 200 enters Error; not wanted before Charging sends one EIM 00 and ends to Idle
 unfoldable pub waitingOf : Readings → ℕ → State → Turn
-waitingOf r silence st = cond (leb 200 silence) (Enter Error) (cond (wantedOf r) (On st) Farewell)
+waitingOf r silence st = cond (leb silenceLimit silence) (Enter Error) (cond (wantedOf r) (On st) Farewell)
 
 -- by phase
-unfoldable pub phaseOn : Settings → Readings → Cells → Turned → Turn
-phaseOn x r c (turned.On p) = On (Charging p)
-phaseOn x r c (turned.Stop cause) = stopOf x r c cause
+unfoldable pub phaseOn : Settings → Readings → Cells → PhaseAfter → Turn
+phaseOn x r c (phase.On p) = On (Charging p)
+phaseOn x r c (phase.Stop cause) = stopOf x r c cause
 
 unfoldable pub phaseTurn : Settings → Readings → Cells → Phase → Turn
-phaseTurn x r c p = phaseOn x r c (turnedOf p (cellFull x c))
+phaseTurn x r c p = phaseOn x r c (phaseAfter p (cellFull x c))
 
 -- Charging then stops on current above maximum, then on pack voltage at or above maximum, then by phase
 unfoldable pub stopsOf : Settings → Readings → Cells → Phase → Turn
 stopsOf x r c p =
-    cond (aboveOf (r .current) (x .current)) (stopOf x r c Other)
+    cond (currentAbove x r) (stopOf x r c Other)
     (cond (packFull x r) (stopOf x r c PackVoltage) (phaseTurn x r c p))
 
 -- Charging, in order: silence 200 enters Error; not wanted in Charging enters Stopping
 unfoldable pub chargingOf : Settings → Readings → Cells → ℕ → Phase → Turn
 chargingOf x r c silence p =
-    cond (leb 200 silence) (Enter Error) (cond (wantedOf r) (stopsOf x r c p) (stopOf x r c Other))
+    cond (leb silenceLimit silence) (Enter Error) (cond (wantedOf r) (stopsOf x r c p) (stopOf x r c Other))
 
 -- EST bytes 1 and 2 are fixed at Stopping's first tick: where a message entered it, the cause is neither pack voltage nor a cell
 unfoldable pub estThen : Settings → Readings → Cells → Est → Est
@@ -81,17 +86,17 @@ estThen x r c (Fixed first second) = Fixed first second
 
 -- Stopping and Error end to Idle at count 600
 unfoldable pub stoppingOf : Settings → Readings → Cells → ℕ → Bool → Est → Turn
-stoppingOf x r c count acknowledged est = cond (leb 600 count) End (On (Stopping acknowledged (estThen x r c est)))
+stoppingOf x r c count acknowledged est = cond (leb closingLimit count) End (On (Stopping acknowledged (estThen x r c est)))
 
 unfoldable pub errorOf : ℕ → Turn
-errorOf count = cond (leb 600 count) End (On Error)
+errorOf count = cond (leb closingLimit count) End (On Error)
 
 unfoldable pub turnOf : Settings → Readings → Cells → State → ℕ → ℕ → Turn
 turnOf x r c Idle count silence = On Idle
 turnOf x r c Offered count silence = waitingOf r silence Offered
 turnOf x r c Unverified count silence = waitingOf r silence Unverified
 turnOf x r c Parameters count silence = waitingOf r silence Parameters
-turnOf x r c (Ready accepted most) count silence = waitingOf r silence (Ready accepted most)
+turnOf x r c (Ready accepted maximum) count silence = waitingOf r silence (Ready accepted maximum)
 turnOf x r c (Charging p) count silence = chargingOf x r c silence p
 turnOf x r c (Stopping acknowledged est) count silence = stoppingOf x r c count acknowledged est
 turnOf x r c Error count silence = errorOf count

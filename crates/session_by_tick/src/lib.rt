@@ -4,15 +4,16 @@
 ghost use mathlib.Core.Path.{_≡_};
 ghost use mathlib.Core.Bool.{cond};
 ghost use Prim.Native.Nat.{_≤_};
-ghost use Rattle.session_by_tick.specs.Turns.{cellFull, packFull, isOther, estFirst, estSecond, stopOf, estOf, waitingOf, phaseTurn, stopsOf, chargingOf, stoppingOf, errorOf, turnOf};
+ghost use Rattle.session_by_tick.specs.Turns.{cellFull, packFull, currentAbove, isOther, estFirst, estSecond, stopOf, estOf, waitingOf, phaseTurn, stopsOf, chargingOf, stoppingOf, errorOf, turnOf};
 use cells::Cells;
+use session_states::limits;
 use session_states::phases::Cause;
 use session_states::phases::Phase;
-use session_states::phases::Turned;
+use session_states::phases::PhaseAfter;
 use readings::Readings;
-use settings::Settings;
 use session_states::states::Est;
 use session_states::states::State;
+use settings::Settings;
 use units::HundredthVolts;
 
 pub enum Turn {
@@ -27,17 +28,24 @@ pub enum Turn {
 }
 
 // The highest cell is at or above the maximum.
-pub fn cell_full(x: Settings, c: Cells) -> bool
+fn cell_full(x: Settings, c: Cells) -> bool
     ensures { λ r. ⌜ r ≡ cellFull x c ⌝ }
 {
-    HundredthVolts(c.volts.highest.value).at_least(x.cell)
+    HundredthVolts(c.volts.highest.value).at_least(x.limits.cell)
 }
 
 // The pack voltage is at or above the maximum.
-pub fn pack_full(x: Settings, r: Readings) -> bool
+fn pack_full(x: Settings, r: Readings) -> bool
     ensures { λ b. ⌜ b ≡ packFull x r ⌝ }
 {
-    r.pack.at_least(x.pack)
+    r.pack.at_least(x.limits.pack)
+}
+
+// The current is above the maximum.
+fn current_above(x: Settings, r: Readings) -> bool
+    ensures { λ b. ⌜ b ≡ currentAbove x r ⌝ }
+{
+    r.current_above(x.limits.current.0)
 }
 
 fn is_other(cause: Cause) -> bool
@@ -71,8 +79,7 @@ fn est_first(x: Settings, r: Readings, c: Cells, cause: Cause) -> u8
 fn est_second(x: Settings, r: Readings) -> u8
     ensures { λ b. ⌜ b ≡ estSecond x r ⌝ }
 {
-    let over = r.current_above(x.current);
-    bit(over, 0x01)
+    bit(current_above(x, r), 0x01)
 }
 
 fn fixed(x: Settings, r: Readings, c: Cells, cause: Cause) -> Est
@@ -98,7 +105,7 @@ fn stop(x: Settings, r: Readings, c: Cells, cause: Cause) -> Turn
 fn waiting(r: Readings, silence: u8, state: State) -> Turn
     ensures { λ t. ⌜ t ≡ waitingOf r silence state ⌝ }
 {
-    if 200 <= silence {
+    if limits::SILENCE <= silence {
         Turn::Enter(State::Error)
     } else if r.wanted() {
         Turn::On(state)
@@ -111,9 +118,9 @@ fn phase_turn(x: Settings, r: Readings, c: Cells, p: Phase) -> Turn
     ensures { λ t. ⌜ t ≡ phaseTurn x r c p ⌝ }
 {
     let full = cell_full(x, c);
-    match p.turned(full) {
-        Turned::On(q) => Turn::On(State::Charging(q)),
-        Turned::Stop(cause) => stop(x, r, c, cause),
+    match p.after_tick(full) {
+        PhaseAfter::On(q) => Turn::On(State::Charging(q)),
+        PhaseAfter::Stop(cause) => stop(x, r, c, cause),
     }
 }
 
@@ -121,7 +128,7 @@ fn phase_turn(x: Settings, r: Readings, c: Cells, p: Phase) -> Turn
 fn stops(x: Settings, r: Readings, c: Cells, p: Phase) -> Turn
     ensures { λ t. ⌜ t ≡ stopsOf x r c p ⌝ }
 {
-    if r.current_above(x.current) {
+    if current_above(x, r) {
         stop(x, r, c, Cause::Other)
     } else if pack_full(x, r) {
         stop(x, r, c, Cause::PackVoltage)
@@ -133,7 +140,7 @@ fn stops(x: Settings, r: Readings, c: Cells, p: Phase) -> Turn
 fn charging(x: Settings, r: Readings, c: Cells, silence: u8, p: Phase) -> Turn
     ensures { λ t. ⌜ t ≡ chargingOf x r c silence p ⌝ }
 {
-    if 200 <= silence {
+    if limits::SILENCE <= silence {
         Turn::Enter(State::Error)
     } else if r.wanted() {
         stops(x, r, c, p)
@@ -145,7 +152,7 @@ fn charging(x: Settings, r: Readings, c: Cells, silence: u8, p: Phase) -> Turn
 fn stopping(x: Settings, r: Readings, c: Cells, count: u16, acknowledged: bool, est: Est) -> Turn
     ensures { λ t. ⌜ t ≡ stoppingOf x r c count acknowledged est ⌝ }
 {
-    if 600 <= count {
+    if limits::CLOSING <= count {
         Turn::End
     } else {
         match est {
@@ -167,7 +174,7 @@ fn stopping(x: Settings, r: Readings, c: Cells, count: u16, acknowledged: bool, 
 fn error(count: u16) -> Turn
     ensures { λ t. ⌜ t ≡ errorOf count ⌝ }
 {
-    if 600 <= count {
+    if limits::CLOSING <= count {
         Turn::End
     } else {
         Turn::On(State::Error)
@@ -183,12 +190,12 @@ pub fn turn_of(x: Settings, r: Readings, c: Cells, state: State, count: u16, sil
         State::Offered => waiting(r, silence, State::Offered),
         State::Unverified => waiting(r, silence, State::Unverified),
         State::Parameters => waiting(r, silence, State::Parameters),
-        State::Ready { accepted, most } => waiting(
+        State::Ready { accepted, maximum } => waiting(
             r,
             silence,
             State::Ready {
                 accepted: accepted,
-                most: most,
+                maximum: maximum,
             },
         ),
         State::Charging(p) => charging(x, r, c, silence, p),

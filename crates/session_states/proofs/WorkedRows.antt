@@ -4,8 +4,8 @@ use mathlib.Core.Path.{_≡_, refl}
 use mathlib.Core.Bool.{true, false}
 use Rattle.units.specs.declared.TenthAmps.{TenthAmps}
 use Rattle.session_states.specs.declared.phases.Phase.the-variants.{Drive, Rest, Hold}
-use Rattle.session_states.specs.declared.phases.Turned.the-variants.{On}
-use Rattle.session_states.specs.Phases.{startPhase, afterRest, driveRules, holdRules, turnedOf}
+use Rattle.session_states.specs.declared.phases.PhaseAfter.the-variants.{On}
+use Rattle.session_states.specs.Phases.{startPhase, afterRest, driveRules, holdRules, phaseAfter}
 
 -- so many tenths of an ampere
 abbrev pub tenths : ℕ → TenthAmps
@@ -16,28 +16,28 @@ pub asked-400 : startPhase (tenths 400) (tenths 400) ≡ Drive (tenths 400) 1 0
 unfolding startPhase
 asked-400 = refl
 
-pub rest-400 : turnedOf (Drive (tenths 400) 1 0) true ≡ On (Rest (tenths 400) 1 0)
-unfolding turnedOf driveRules
+pub rest-400 : phaseAfter (Drive (tenths 400) 1 0) true ≡ On (Rest (tenths 400) 1 0)
+unfolding phaseAfter driveRules
 rest-400 = refl
 
-pub then-200 : turnedOf (Rest (tenths 400) 1 6000) false ≡ On (Drive (tenths 200) 2 0)
-unfolding turnedOf afterRest driveRules
+pub then-200 : phaseAfter (Rest (tenths 400) 1 6000) false ≡ On (Drive (tenths 200) 2 0)
+unfolding phaseAfter afterRest driveRules
 then-200 = refl
 
-pub rest-200 : turnedOf (Drive (tenths 200) 2 0) true ≡ On (Rest (tenths 200) 2 0)
-unfolding turnedOf driveRules
+pub rest-200 : phaseAfter (Drive (tenths 200) 2 0) true ≡ On (Rest (tenths 200) 2 0)
+unfolding phaseAfter driveRules
 rest-200 = refl
 
-pub then-100 : turnedOf (Rest (tenths 200) 2 6000) false ≡ On (Drive (tenths 100) 3 0)
-unfolding turnedOf afterRest driveRules
+pub then-100 : phaseAfter (Rest (tenths 200) 2 6000) false ≡ On (Drive (tenths 100) 3 0)
+unfolding phaseAfter afterRest driveRules
 then-100 = refl
 
-pub rest-100 : turnedOf (Drive (tenths 100) 3 0) true ≡ On (Rest (tenths 100) 3 0)
-unfolding turnedOf driveRules
+pub rest-100 : phaseAfter (Drive (tenths 100) 3 0) true ≡ On (Rest (tenths 100) 3 0)
+unfolding phaseAfter driveRules
 rest-100 = refl
 
-pub then-hold : turnedOf (Rest (tenths 100) 3 6000) false ≡ On (Hold 0)
-unfolding turnedOf afterRest holdRules
+pub then-hold : phaseAfter (Rest (tenths 100) 3 6000) false ≡ On (Hold 0)
+unfolding phaseAfter afterRest holdRules
 then-hold = refl
 
 -- R 60 drives, 59 holds: at the start by the station's maximum, and after a Rest
@@ -49,10 +49,10 @@ pub fifty-nine-holds : startPhase (tenths 400) (tenths 59) ≡ Hold 0
 unfolding startPhase
 fifty-nine-holds = refl
 
-pub sixty-drives-again : turnedOf (Rest (tenths 120) 1 6000) false ≡ On (Drive (tenths 60) 2 0)
-unfolding turnedOf afterRest driveRules
+pub sixty-drives-again : phaseAfter (Rest (tenths 120) 1 6000) false ≡ On (Drive (tenths 60) 2 0)
+unfolding phaseAfter afterRest driveRules
 sixty-drives-again = refl
 
-pub fifty-nine-holds-then : turnedOf (Rest (tenths 119) 1 6000) false ≡ On (Hold 0)
-unfolding turnedOf afterRest holdRules
+pub fifty-nine-holds-then : phaseAfter (Rest (tenths 119) 1 6000) false ≡ On (Hold 0)
+unfolding phaseAfter afterRest holdRules
 fifty-nine-holds-then = refl

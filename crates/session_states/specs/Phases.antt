@@ -8,8 +8,8 @@ use Rattle.units.specs.Units.{lesserAmps, halvedAmps}
 use Rattle.session_states.specs.declared.phases.Phase.{Phase}
 use Rattle.session_states.specs.declared.phases.Phase.the-variants.{Drive, Rest, Hold}
 use Rattle.session_states.specs.declared.phases.Cause.the-variants.{HoldCell, Other}
-use Rattle.session_states.specs.declared.phases.Turned.{Turned}
-use Rattle.session_states.specs.declared.phases.Turned.the-variants.{On, Stop}
+use Rattle.session_states.specs.declared.phases.PhaseAfter.{PhaseAfter}
+use Rattle.session_states.specs.declared.phases.PhaseAfter.the-variants.{On, Stop}
 use Rattle.session_states.specs.Limits.{driveLimit, restLimit, holdLimit, leastRequest, mostDrives}
 use Rattle.session_states.specs.Counts.{nextUpTo}
 
@@ -24,27 +24,27 @@ startPhase maximum station =
 
 -- Drive asks R for up to 18000 ticks; the next one stops. A cell at or above maximum turns Drive to Rest. A phase's time limit
 -- comes before its cell rule
-unfoldable pub driveRules : TenthAmps → ℕ → ℕ → Bool → Turned
+unfoldable pub driveRules : TenthAmps → ℕ → ℕ → Bool → PhaseAfter
 driveRules request cycle time cell =
     cond (leb driveLimit time) (Stop Other) (cond cell (On (Rest request cycle 0)) (On (Drive request cycle time)))
 
 -- Hold: constant voltage for 18000 ticks, then stop; a cell at or above maximum in Hold stops too
-unfoldable pub holdRules : ℕ → Bool → Turned
+unfoldable pub holdRules : ℕ → Bool → PhaseAfter
 holdRules time cell = cond (leb holdLimit time) (Stop Other) (cond cell (Stop HoldCell) (On (Hold time)))
 
 -- After Rest R is halved rounding down. Where R is under 60 or six Drives are done (no seventh Drive starts), Hold starts instead. A
 -- phase's rules apply from its first tick
-unfoldable pub afterRest : TenthAmps → ℕ → Bool → Turned
+unfoldable pub afterRest : TenthAmps → ℕ → Bool → PhaseAfter
 afterRest request cycle cell =
     cond (tooSmall (halvedAmps request)) (holdRules 0 cell)
     (cond (leb mostDrives cycle) (holdRules 0 cell) (driveRules (halvedAmps request) (cycle + 1) 0 cell))
 
 -- Rest: 0 A for 6000 ticks
-unfoldable pub turnedOf : Phase → Bool → Turned
-turnedOf (Drive request cycle time) cell = driveRules request cycle time cell
-turnedOf (Rest request cycle time) cell =
+unfoldable pub phaseAfter : Phase → Bool → PhaseAfter
+phaseAfter (Drive request cycle time) cell = driveRules request cycle time cell
+phaseAfter (Rest request cycle time) cell =
     cond (leb restLimit time) (afterRest request cycle cell) (On (Rest request cycle time))
-turnedOf (Hold time) cell = holdRules time cell
+phaseAfter (Hold time) cell = holdRules time cell
 
 -- a phase one tick older: its time stays at the limit that ends it
 unfoldable pub agedOf : Phase → Phase

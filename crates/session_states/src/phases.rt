@@ -1,6 +1,6 @@
 // The phases of a charge, Drive, Rest and Hold, and what a tick makes of each (01, "Session by tick").
 ghost use mathlib.Core.Path.{_≡_};
-ghost use Rattle.session_states.specs.Phases.{startPhase, driveRules, holdRules, afterRest, turnedOf, agedOf};
+ghost use Rattle.session_states.specs.Phases.{startPhase, driveRules, holdRules, afterRest, phaseAfter, agedOf};
 use crate::counts;
 use crate::limits;
 use units::TenthAmps;
@@ -29,7 +29,7 @@ pub enum Cause {
 }
 
 // What a tick makes of a phase.
-pub enum Turned {
+pub enum PhaseAfter {
     On(Phase),
     Stop(Cause),
 }
@@ -50,19 +50,19 @@ pub fn start_phase(maximum: TenthAmps, station: TenthAmps) -> Phase
     }
 }
 
-fn drive_rules(request: TenthAmps, cycle: u8, time: u16, cell: bool) -> Turned
+fn drive_rules(request: TenthAmps, cycle: u8, time: u16, cell: bool) -> PhaseAfter
     ensures { λ r. ⌜ r ≡ driveRules request cycle time cell ⌝ }
 {
     if limits::DRIVE <= time {
-        Turned::Stop(Cause::Other)
+        PhaseAfter::Stop(Cause::Other)
     } else if cell {
-        Turned::On(Phase::Rest {
+        PhaseAfter::On(Phase::Rest {
             request: request,
             cycle: cycle,
             time: 0,
         })
     } else {
-        Turned::On(Phase::Drive {
+        PhaseAfter::On(Phase::Drive {
             request: request,
             cycle: cycle,
             time: time,
@@ -70,20 +70,20 @@ fn drive_rules(request: TenthAmps, cycle: u8, time: u16, cell: bool) -> Turned
     }
 }
 
-fn hold_rules(time: u16, cell: bool) -> Turned
+fn hold_rules(time: u16, cell: bool) -> PhaseAfter
     ensures { λ r. ⌜ r ≡ holdRules time cell ⌝ }
 {
     if limits::HOLD <= time {
-        Turned::Stop(Cause::Other)
+        PhaseAfter::Stop(Cause::Other)
     } else if cell {
-        Turned::Stop(Cause::HoldCell)
+        PhaseAfter::Stop(Cause::HoldCell)
     } else {
-        Turned::On(Phase::Hold { time: time })
+        PhaseAfter::On(Phase::Hold { time: time })
     }
 }
 
 // The phase that follows a Rest, under its own rules from its first tick.
-fn after_rest(request: TenthAmps, cycle: u8, cell: bool) -> Turned
+fn after_rest(request: TenthAmps, cycle: u8, cell: bool) -> PhaseAfter
     ensures { λ r. ⌜ r ≡ afterRest request cycle cell ⌝ }
 {
     let halved = request.halved();
@@ -98,8 +98,8 @@ fn after_rest(request: TenthAmps, cycle: u8, cell: bool) -> Turned
 
 impl Phase {
     // The phase after this tick's rules: time limits first, then the cell rule.
-    pub fn turned(self, cell: bool) -> Turned
-        ensures { λ r. ⌜ r ≡ turnedOf self cell ⌝ }
+    pub fn after_tick(self, cell: bool) -> PhaseAfter
+        ensures { λ r. ⌜ r ≡ phaseAfter self cell ⌝ }
     {
         match self {
             Phase::Drive {
@@ -115,7 +115,7 @@ impl Phase {
                 if limits::REST <= time {
                     after_rest(request, cycle, cell)
                 } else {
-                    Turned::On(Phase::Rest {
+                    PhaseAfter::On(Phase::Rest {
                         request: request,
                         cycle: cycle,
                         time: time,

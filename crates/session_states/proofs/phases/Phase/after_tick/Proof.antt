@@ -1,9 +1,9 @@
--- `session_states::phases::Phase::turned` meets its contract: a line a phase. Assumes nothing.
+-- `session_states::phases::Phase::after_tick` meets its contract: a line a phase. Assumes nothing.
 use borrow.Author.Tests.{le-leb, lt-leb}
-use Rattle.session_states.specs.Phases.{turnedOf}
+use Rattle.session_states.specs.Phases.{phaseAfter}
 use borrow.Author.Needs.{needs}
-use Rattle.session_states.proofs.phases.Phase.turned.Statement.{statement}
-use Rattle.session_states.proofs.phases.Phase.turned.Tie as tie
+use Rattle.session_states.proofs.phases.Phase.after_tick.Statement.{statement}
+use Rattle.session_states.proofs.phases.Phase.after_tick.Tie as tie
 
 enum-known-self : tie.Need-enum-known-self
 enum-known-self c = search needs
@@ -24,23 +24,23 @@ hold-rules-requires : tie.Need-hold-rules-requires
 hold-rules-requires c κs = search needs
 
 returns : tie.Need-returns
-unfolding turnedOf
+unfolding phaseAfter
 returns c = rw (c .before .before .self .given .1) (c .drive-rules .ensures)
 
 returns-2 : tie.Need-returns-2
-unfolding turnedOf
+unfolding phaseAfter
 returns-2 c = rw (c .before .before .before .self2 .given .1, le-leb _ _ (c .before .if1 .taken)) (c .after-rest .ensures)
 
 returns-3 : tie.Need-returns-3
-unfolding turnedOf
+unfolding phaseAfter
 returns-3 c = rw (c .before .before .self2 .given .1, lt-leb _ _ (c .if1 .left))
 
 returns-4 : tie.Need-returns-4
-unfolding turnedOf
+unfolding phaseAfter
 returns-4 c = rw (c .before .before .self3 .given .1) (c .hold-rules .ensures)
 
-pub turned-spec : {M : Type 1} → statement M
-turned-spec =
+pub after-tick-spec : {M : Type 1} → statement M
+after-tick-spec =
     tie.close
     (tie.spec
     enum-known-self
