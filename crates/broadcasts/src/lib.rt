@@ -7,6 +7,7 @@ use cells::Cells;
 use cells::figures;
 use cells::sent;
 use frames::Frame;
+use messages::table;
 use readings::Readings;
 use settings::Versions;
 
@@ -50,7 +51,7 @@ fn ps(own: u8, heartbeat: bool, readings: Readings, cells: Cells) -> Frame
         (pack % 256) as u8,
         (pack / 256) as u8,
     ];
-    Frame::new(rows::ps(), 0, own, bytes)
+    Frame::new(table::row_at(table::PS), 0, own, bytes)
 }
 
 fn cvs(own: u8, cells: Cells) -> Frame
@@ -70,7 +71,7 @@ fn cvs(own: u8, cells: Cells) -> Frame
         (lowest % 256) as u8,
         (lowest / 256) as u8,
     ];
-    Frame::new(rows::cvs(), 0, own, bytes)
+    Frame::new(table::row_at(table::CVS), 0, own, bytes)
 }
 
 fn cts(own: u8, cells: Cells) -> Frame
@@ -88,7 +89,7 @@ fn cts(own: u8, cells: Cells) -> Frame
         0,
         0,
     ];
-    Frame::new(rows::cts(), 0, own, bytes)
+    Frame::new(table::row_at(table::CTS), 0, own, bytes)
 }
 
 fn fws(own: u8, readings: Readings) -> Frame
@@ -106,7 +107,7 @@ fn fws(own: u8, readings: Readings) -> Frame
         0,
         0,
     ];
-    Frame::new(rows::fws(), 0, own, bytes)
+    Frame::new(table::row_at(table::FWS), 0, own, bytes)
 }
 
 fn ec(own: u8, versions: Versions) -> Frame
@@ -114,7 +115,7 @@ fn ec(own: u8, versions: Versions) -> Frame
 {
     let v = versions;
     let bytes = [v.first, v.second, v.third, v.fourth, v.fifth, 0, 0, 0];
-    Frame::new(rows::ec(), 0, own, bytes)
+    Frame::new(table::row_at(table::EC), 0, own, bytes)
 }
 
 impl Broadcasts {

@@ -8,15 +8,15 @@ use lib.ListN.{length, drop, length-append}
 use Rattle.buffers.specs.Laid.{Laid}
 use Rattle.buffers.proofs.Laws.{laid-none, laid-then, laid-eq, laid-length, laid-start}
 use Rattle.frames.specs.declared.Frame.{Frame}
-use Rattle.frames.specs.Frame.{recordOf, recordsOf}
+use Rattle.frames.specs.Frame.{recordSize, recordOf, recordsOf}
 use Rattle.frames.specs.Sent.{Sent}
 
--- a record is thirteen bytes
-pub length-record : (f : Frame) → length (recordOf f) ≡ 13
+-- every record has one size
+pub length-record : (f : Frame) → length (recordOf f) ≡ recordSize
 unfolding recordOf
 length-record f = refl
 
-pub length-records : (fs : List Frame) → length (recordsOf fs) ≡ 13 * length fs
+pub length-records : (fs : List Frame) → length (recordsOf fs) ≡ recordSize * length fs
 unfolding recordsOf
 length-records [] = refl
 length-records (f ∷ fs) =
@@ -35,12 +35,12 @@ records-one f = sym (append-nil (recordOf f))
 -- no frame
 pub sent-none : (old : List ℕ) (at : ℕ) → at ≤ length old → Sent 0 old old at at []
 unfolding recordsOf
-sent-none old at h = record { count = omega arith; thirteen = omega arith; laid = laid-none old at h }
+sent-none old at h = record { count = omega arith; past = omega arith; laid = laid-none old at h }
 
 -- one frame, laid as its record
 pub sent-one : {old new : List ℕ} {at next : ℕ} (f : Frame) → Laid old new at next (recordOf f) → Sent 1 old new at next (f ∷ [])
 sent-one {old} {new} {at} {next} f a =
-    record { count = omega arith; thirteen = omega (arith, a .past, length-record f); laid = laid-eq a (records-one f) }
+    record { count = omega arith; past = omega (arith, a .past, length-record f); laid = laid-eq a (records-one f) }
 
 -- some frames after others
 pub sent-then : {m n : ℕ} {old mid new : List ℕ} {at k next : ℕ} {fs gs : List Frame}
@@ -49,14 +49,14 @@ sent-then {m} {n} {old} {mid} {new} {at} {k} {next} {fs} {gs} a b =
     let l : length (fs ++ gs) ≡ length fs + length gs = length-append fs gs in
     record {
       count = omega (arith, a .count, b .count);
-      thirteen = omega (arith, a .thirteen, b .thirteen);
+      past = omega (arith, a .past, b .past);
       laid = laid-eq (laid-then (a .laid) (b .laid)) (sym (records-append fs gs));
     }
 
 module _ {m : ℕ} {old new : List ℕ} {at next : ℕ} {fs : List Frame} (a : Sent m old new at next fs) where
   -- a looser bound
   pub sent-most : (n : ℕ) → m ≤ n → Sent n old new at next fs
-  sent-most n h = record { count = omega (arith, a .count); thirteen = a .thirteen; laid = a .laid }
+  sent-most n h = record { count = omega (arith, a .count); past = a .past; laid = a .laid }
 
   -- the same frames, known by another name
   pub sent-eq : {gs : List Frame} → fs ≡ gs → Sent m old new at next gs
@@ -64,7 +64,7 @@ module _ {m : ℕ} {old new : List ℕ} {at next : ℕ} {fs : List Frame} (a : S
 
 -- from the buffer's start: the records in a row, then the rest of the buffer as it was
 pub sent-start : {m : ℕ} {old new : List ℕ} {next : ℕ} {fs : List Frame} → Sent m old new 0 next fs
-    → new ≡ recordsOf fs ++ drop (13 * length fs) old
+    → new ≡ recordsOf fs ++ drop (recordSize * length fs) old
 sent-start {m} {old} {new} {next} {fs} a =
     laid-start (a .laid) ∙ ap (λ (k : ℕ). recordsOf fs ++ drop k old) (length-records fs)
 
@@ -79,4 +79,4 @@ pub in-turn : {old new : List ℕ} {at next : ℕ} {fs : List Frame} → at ≤ 
     → Sent (length fs) old new at next fs
 in-turn h last = sent-none _ _ h
 in-turn h (more {fs = fs} a t) =
-    sent-most (sent-then a (in-turn (omega (arith, a .thirteen, a .laid .room, laid-length (a .laid))) t)) _ (omega arith)
+    sent-most (sent-then a (in-turn (omega (arith, a .past, a .laid .room, laid-length (a .laid))) t)) _ (omega arith)

@@ -1,11 +1,11 @@
-// A frame as it goes on the bus, the 13-byte record that it is in a buffer, and frames laid one after the other into a lent
-// buffer, with a promise of the buffer's whole later contents. This crate may not know when a frame is due, or what its data mean.
+// A frame as it goes on the bus, the record that it is in a buffer, and frames laid one after the other into a lent buffer, with
+// a promise of the buffer's whole later contents. This crate may not know when a frame is due, or what its data mean.
 ghost use mathlib.Core.Path.{_≡_};
 ghost use mathlib.Core.Bool.{cond};
 ghost use mathlib.Core.List.{[], _∷_};
 ghost use Prim.Native.Nat.{_+_, _≤_};
 ghost use lib.ListN.{length};
-ghost use Rattle.frames.specs.Frame.{frameOf, recordOf};
+ghost use Rattle.frames.specs.Frame.{recordSize, frameOf, recordOf};
 ghost use Rattle.frames.specs.Sent.{Sent};
 use messages::identifier;
 use messages::table::Row;
@@ -29,7 +29,7 @@ impl Frame {
     {
         Frame {
             id: identifier::identifier_of(row, target, source),
-            length: row.2,
+            length: row.length(),
             bytes,
         }
     }
@@ -60,7 +60,7 @@ impl Frame {
 
     // The frame's record laid at a place with room for it; the place past it is returned.
     pub fn send(self, buf: &mut [u8], at: usize) -> usize
-        requires { ⌜ at + 13 ≤ length (now buf) ⌝ }
+        requires { ⌜ at + recordSize ≤ length (now buf) ⌝ }
         ensures { λ r. ⌜ Sent 1 (now (buf .entry)) (now (buf .exit)) at r (self ∷ []) ⌝ }
     {
         let r = self.record();
@@ -69,7 +69,7 @@ impl Frame {
 
     // The same where the frame is due, and nothing where it is not.
     pub fn send_if(self, due: bool, buf: &mut [u8], at: usize) -> usize
-        requires { ⌜ at + 13 ≤ length (now buf) ⌝ }
+        requires { ⌜ at + recordSize ≤ length (now buf) ⌝ }
         ensures { λ r. ⌜ Sent 1 (now (buf .entry)) (now (buf .exit)) at r (cond due (self ∷ []) []) ⌝ }
     {
         if due { self.send(buf, at) } else { at }

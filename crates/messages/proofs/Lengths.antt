@@ -5,11 +5,11 @@ use mathlib.Core.List.{List, [], _∷_}
 use lib.Dec.{eqb}
 use lib.ListN.{drop}
 use Rattle.messages.specs.declared.table.Row.{Row}
-use Rattle.messages.specs.Table.{rows}
+use Rattle.messages.specs.Table.{lengthOf, sentLength, rows}
 
 pub allEight : List Row → Bool
 allEight [] = true
-allEight (r ∷ rs) = eqb (r .2) 8 && allEight rs
+allEight (r ∷ rs) = eqb (lengthOf r) sentLength && allEight rs
 
 pub sent-rows-have-eight : allEight (drop 9 rows) ≡ true
 unfolding allEight

@@ -6,6 +6,7 @@ use mathlib.Core.Bool.{cond}
 use lib.Dec.{ltb}
 use Rattle.messages.specs.declared.table.Row.{Row}
 use Rattle.messages.specs.declared.identifier.Identifier.{Identifier}
+use Rattle.messages.specs.Table.{pfOf, priorityOf, broadcastPs}
 
 -- taken apart
 unfoldable pub partsOf : ℕ → Identifier
@@ -30,11 +31,21 @@ numberOf p =
     + p .source
 
 -- PF 0 to 239 is targeted and PS is the target; 240 to 255 is broadcast, and PS is the row's
+abbrev pub firstBroadcast : ℕ
+firstBroadcast = 240
+
 abbrev pub psOf : Row → ℕ → ℕ
-psOf row target = cond (ltb (row .0) 240) target (row .3)
+psOf row target = cond (ltb (pfOf row) firstBroadcast) target (broadcastPs row)
 
 -- the identifier of a message that we send: reserved and data page are clear
 abbrev pub identifierOf : Row → ℕ → ℕ → ℕ
 identifierOf row target source =
     numberOf
-    (record { priority = row .1; reserved = 0; page = 0; pf = row .0; ps = psOf row target; source = source })
+    (record {
+      priority = priorityOf row;
+      reserved = 0;
+      page = 0;
+      pf = pfOf row;
+      ps = psOf row target;
+      source = source;
+    })

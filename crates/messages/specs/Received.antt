@@ -12,7 +12,7 @@ use Rattle.messages.specs.declared.received.Message.{Message}
 use Rattle.messages.specs.declared.received.Message.the-variants as message
 use Rattle.messages.specs.declared.received.Recognized.{Recognized}
 use Rattle.messages.specs.declared.received.Recognized.the-variants.{As, Refused}
-use Rattle.messages.specs.Table.{CIM, CVM, CMP, CRM, CCS, CST, CEM, ACV, ACT}
+use Rattle.messages.specs.Table.{pfOf, lengthOf, CIM, CVM, CMP, CRM, CCS, CST, CEM, ACV, ACT}
 
 -- the row of each of the nine
 abbrev pub chargeRow : Charge → Row
@@ -32,6 +32,10 @@ abbrev pub rowOf : Message → Row
 rowOf (message.Charge c) = chargeRow c
 rowOf (message.Query q) = queryRow q
 
+-- "least length"
+abbrev pub leastLength : Message → ℕ
+leastLength m = lengthOf (rowOf m)
+
 abbrev pub nine : List Message
 nine =
     message.Charge Cim
@@ -48,7 +52,7 @@ nine =
 -- the first of the messages whose row has this PF; where none has, 7: "PF not one of the nine"
 abbrev pub firstWith : ℕ → List Message → Recognized
 firstWith pf [] = Refused 7
-firstWith pf (m ∷ ms) = cond (eqb pf (rowOf m .0)) (As m) (firstWith pf ms)
+firstWith pf (m ∷ ms) = cond (eqb pf (pfOf (rowOf m))) (As m) (firstWith pf ms)
 
 abbrev pub recognizedOf : ℕ → Recognized
 recognizedOf pf = firstWith pf nine
@@ -61,7 +65,7 @@ recognizedNumber (Refused n) = n
 -- one of the messages has this PF
 abbrev pub someHas : ℕ → List Message → Bool
 someHas pf [] = false
-someHas pf (m ∷ ms) = eqb pf (rowOf m .0) || someHas pf ms
+someHas pf (m ∷ ms) = eqb pf (pfOf (rowOf m)) || someHas pf ms
 
 -- 7: "PF not one of the nine"
 abbrev pub pfNumber : ℕ → ℕ

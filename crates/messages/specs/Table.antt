@@ -4,17 +4,36 @@ use mathlib.Core.List.{List, [], _∷_}
 use lib.ListN.{getD}
 use Rattle.messages.specs.declared.table.Row.{Row}
 
+-- the columns of a row by name
+abbrev pub pfOf : Row → ℕ
+pfOf row = row .0
+
+abbrev pub priorityOf : Row → ℕ
+priorityOf row = row .1
+
+-- of a received message the least length
+abbrev pub lengthOf : Row → ℕ
+lengthOf row = row .2
+
+-- the PS of a broadcast
+abbrev pub broadcastPs : Row → ℕ
+broadcastPs row = row .3
+
 -- to us: PF and least length; the priority is ignored, and PS is our address
 abbrev pub toUs : ℕ → ℕ → Row
 toUs pf least = record { 0 = pf; 1 = 0; 2 = least; 3 = 0 }
 
+-- "Every frame we send has 8 data bytes"
+abbrev pub sentLength : ℕ
+sentLength = 8
+
 -- us to a station or to the source of a query: PF and priority, with 8 data bytes; PS is its address
 abbrev pub toTarget : ℕ → ℕ → Row
-toTarget pf priority = record { 0 = pf; 1 = priority; 2 = 8; 3 = 0 }
+toTarget pf priority = record { 0 = pf; 1 = priority; 2 = sentLength; 3 = 0 }
 
 -- broadcast: PF FA, priority 7, and PS
 abbrev pub broadcast : ℕ → Row
-broadcast ps = record { 0 = 0xfa; 1 = 7; 2 = 8; 3 = ps }
+broadcast ps = record { 0 = 0xfa; 1 = 7; 2 = sentLength; 3 = ps }
 
 -- Station to us, PF hex and least length
 abbrev pub CIM : Row

@@ -1,6 +1,6 @@
 // The 29-bit identifier and its parts (01, "Identifier and message numbers").
 ghost use mathlib.Core.Path.{_≡_};
-ghost use Rattle.messages.specs.Identifier.{partsOf, numberOf, identifierOf};
+ghost use Rattle.messages.specs.Identifier.{partsOf, numberOf, psOf, identifierOf};
 use crate::table::Row;
 
 pub struct Identifier {
@@ -40,17 +40,30 @@ impl Identifier {
     }
 }
 
-// The identifier of a message that we send: PS is the target where PF is below 240, and else the row's own.
+// From this PF up a message is a broadcast.
+pub const FIRST_BROADCAST: u8 = 240;
+
+// PS is the target of a targeted message, and else the row's own.
+fn ps_of(row: Row, target: u8) -> u8
+    ensures { λ r. ⌜ r ≡ psOf row target ⌝ }
+{
+    if row.pf() < FIRST_BROADCAST {
+        target
+    } else {
+        row.ps()
+    }
+}
+
+// The identifier of a message that we send.
 pub fn identifier_of(row: Row, target: u8, source: u8) -> u32
     ensures { λ r. ⌜ r ≡ identifierOf row target source ⌝ }
 {
-    let ps = if row.0 < 240 { target } else { row.3 };
     Identifier {
-        priority: row.1,
+        priority: row.priority(),
         reserved: 0,
         page: 0,
-        pf: row.0,
-        ps,
+        pf: row.pf(),
+        ps: ps_of(row, target),
         source,
     }.number()
 }

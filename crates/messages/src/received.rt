@@ -1,6 +1,6 @@
 // The nine messages that we take, told by their PF (01, "Identifier and message numbers", and number 7).
 ghost use mathlib.Core.Path.{_≡_};
-ghost use Rattle.messages.specs.Received.{rowOf, chargeRow, queryRow, recognizedOf, recognizedNumber, pfNumber};
+ghost use Rattle.messages.specs.Received.{rowOf, leastLength, chargeRow, queryRow, recognizedOf, recognizedNumber, pfNumber};
 use crate::identifier::Identifier;
 use crate::table;
 use crate::table::Row;
@@ -90,5 +90,12 @@ impl Message {
             Message::Charge(c) => c.row(),
             Message::Query(q) => q.row(),
         }
+    }
+
+    // The least length of its data.
+    pub fn least_length(self) -> u8
+        ensures { λ r. ⌜ r ≡ leastLength self ⌝ }
+    {
+        self.row().length()
     }
 }

@@ -1,12 +1,43 @@
 // The one table of message rows (01, "Identifier and message numbers"), and the place of each message in it.
 ghost use mathlib.Core.Path.{_≡_};
-ghost use Prim.Native.Nat.{_<_};
-ghost use Rattle.messages.specs.Table.{rowAt};
+ghost use Rattle.messages.specs.Table.{pfOf, priorityOf, lengthOf, broadcastPs, rowAt};
 
 // A message: PF, priority, length (of a received one the least), and the PS of a broadcast (0 where PS is the target).
+// One line a message is what makes the table one to read, so a row has places and not names; the methods name them.
 pub struct Row(pub u8, pub u8, pub u8, pub u8);
 
-pub const ROWS: [Row; 26] = [
+impl Row {
+    pub fn pf(self) -> u8
+        ensures { λ r. ⌜ r ≡ pfOf self ⌝ }
+    {
+        self.0
+    }
+
+    pub fn priority(self) -> u8
+        ensures { λ r. ⌜ r ≡ priorityOf self ⌝ }
+    {
+        self.1
+    }
+
+    // The length, of a received message the least.
+    pub fn length(self) -> u8
+        ensures { λ r. ⌜ r ≡ lengthOf self ⌝ }
+    {
+        self.2
+    }
+
+    // The PS of a broadcast.
+    pub fn ps(self) -> u8
+        ensures { λ r. ⌜ r ≡ broadcastPs self ⌝ }
+    {
+        self.3
+    }
+}
+
+// How many rows the table has.
+pub const COUNT: usize = 26;
+
+pub const ROWS: [Row; COUNT] = [
     Row(0x26, 0, 3, 0), // CIM, from a station
     Row(0x01, 0, 1, 0), // CVM
     Row(0x08, 0, 8, 0), // CMP
@@ -88,10 +119,13 @@ pub const VOLTAGES: usize = 24;
 
 pub const TEMPERATURES: usize = 25;
 
-// Any row of the table, by its place: the table is the paper's, row by row.
+// The row at a place: the table is the paper's, row by row. Past it stands a row of zeros, which no message has.
 pub fn row_at(place: usize) -> Row
-    requires { ⌜ place < 26 ⌝ }
     ensures { λ r. ⌜ r ≡ rowAt place ⌝ }
 {
-    ROWS[place]
+    if place < COUNT {
+        ROWS[place]
+    } else {
+        Row(0, 0, 0, 0)
+    }
 }

@@ -11,6 +11,7 @@ use crate::Queries;
 use crate::Query;
 use cells::groups;
 use frames::Frame;
+use messages::table;
 use messages::table::Row;
 
 // The cells that stand before a group.
@@ -38,8 +39,8 @@ fn row_of(kind: Kind, group: u8) -> Row
     ensures { λ r. ⌜ r ≡ rowOf kind group ⌝ }
 {
     match kind {
-        Kind::Voltages => row_after(rows::voltages(), group),
-        Kind::Temperatures => row_after(rows::temperatures(), group),
+        Kind::Voltages => row_after(table::row_at(table::VOLTAGES), group),
+        Kind::Temperatures => row_after(table::row_at(table::TEMPERATURES), group),
     }
 }
 

@@ -35,8 +35,8 @@ cast-t9 c =
           );
     }
 
-cts-requires : tie.Need-cts-requires
-cts-requires c κs = search needs
+row-at-requires : tie.Need-row-at-requires
+row-at-requires c κs = search needs
 
 new-requires : tie.Need-new-requires
 new-requires c κs = search needs
@@ -46,7 +46,7 @@ unfolding ctsOf
 returns c =
     let b = c .before .before .before in
     c .new .ensures
-    ∙ rw (c .before .cts .ensures, b .before .before .before .average .ensures, b .before .before .index-byte .ensures, b .index-byte2 .ensures)
+    ∙ rw (c .before .row-at .ensures, b .before .before .before .average .ensures, b .before .before .index-byte .ensures, b .index-byte2 .ensures)
 
 pub cts-spec : {M : Type 1} → statement M
 cts-spec =
@@ -58,6 +58,6 @@ cts-spec =
     index-byte-requires-2
     cast-t8
     cast-t9
-    cts-requires
+    row-at-requires
     new-requires
     returns)

@@ -32,8 +32,8 @@ cast-t18 c = search needs
 cast-t20 : tie.Need-cast-t20
 cast-t20 c = search needs
 
-cvs-requires : tie.Need-cvs-requires
-cvs-requires c κs = search needs
+row-at-requires : tie.Need-row-at-requires
+row-at-requires c κs = search needs
 
 new-requires : tie.Need-new-requires
 new-requires c κs = search needs
@@ -42,7 +42,7 @@ returns : tie.Need-returns
 unfolding cvsOf
 returns c =
     let b = c .before .before in
-    c .new .ensures ∙ rw (c .before .cvs .ensures, b .before .before .average .ensures, b .before .index-byte .ensures, b .index-byte2 .ensures)
+    c .new .ensures ∙ rw (c .before .row-at .ensures, b .before .before .average .ensures, b .before .index-byte .ensures, b .index-byte2 .ensures)
 
 pub cvs-spec : {M : Type 1} → statement M
 cvs-spec =
@@ -57,6 +57,6 @@ cvs-spec =
     index-byte-requires-2
     cast-t18
     cast-t20
-    cvs-requires
+    row-at-requires
     new-requires
     returns)

@@ -26,8 +26,8 @@ cast-t15 c = search needs
 cast-t17 : tie.Need-cast-t17
 cast-t17 c = search needs
 
-ps-requires : tie.Need-ps-requires
-ps-requires c κs = search needs
+row-at-requires : tie.Need-row-at-requires
+row-at-requires c κs = search needs
 
 new-requires : tie.Need-new-requires
 new-requires c κs = search needs
@@ -36,7 +36,7 @@ returns : tie.Need-returns
 unfolding psOf
 returns c =
     let b = c .before .before in
-    c .new .ensures ∙ rw (c .before .ps .ensures, b .before .before .status-byte .ensures, b .before .count-byte .ensures, b .current-bits .ensures)
+    c .new .ensures ∙ rw (c .before .row-at .ensures, b .before .before .status-byte .ensures, b .before .count-byte .ensures, b .current-bits .ensures)
 
 pub ps-spec : {M : Type 1} → statement M
 ps-spec =
@@ -49,6 +49,6 @@ ps-spec =
     cast-t13
     cast-t15
     cast-t17
-    ps-requires
+    row-at-requires
     new-requires
     returns)
