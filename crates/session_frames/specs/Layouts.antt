@@ -1,9 +1,11 @@
 -- The ten frames to the station (01, "Session by tick", "Layouts"), each from us to the station with its row of the table. Words are little
 -- endian; every frame has 8 data bytes, zero after its fields.
-use Prim.Native.Nat.{ℕ, _-_, _*_, _/_, _%_}
+use Prim.Native.Nat.{ℕ, _%_}
 use mathlib.Core.Bool.{Bool, cond}
 use mathlib.Core.List.{[], _∷_, _++_}
-use lib.Dec.{leb}
+use Rattle.units.specs.declared.TenthVolts.{TenthVolts}
+use Rattle.units.specs.declared.HundredthVolts.{HundredthVolts}
+use Rattle.units.specs.Units.{inSeries, rawAmps}
 use Rattle.buffers.specs.Words.{wordBytes}
 use Rattle.messages.specs.Table.{EIM, EVM, ECP, ERM, ECR, ECS, ESM, EST, EDM, EEM}
 use Rattle.frames.specs.declared.Frame.{Frame}
@@ -27,7 +29,7 @@ byteOf n = n % 256
 -- EIM each 5 (maximum pack voltage, AA); one EIM 00
 unfoldable pub eimOf : Settings → ℕ → Bool → Frame
 eimOf x station on =
-    frameOf EIM station (x .own) (wordBytes (x .pack .0) ++ (markOf on ∷ 0 ∷ 0 ∷ 0 ∷ 0 ∷ 0 ∷ []))
+    frameOf EIM station (x .own) (wordBytes (x .limits .pack .0) ++ (markOf on ∷ 0 ∷ 0 ∷ 0 ∷ 0 ∷ 0 ∷ []))
 
 -- EVM 45 50 53, 00 (Unverified) or AA, capacity, pack voltage
 unfoldable pub evmOf : Settings → ℕ → Readings → Bool → Frame
@@ -39,19 +41,19 @@ evmOf x station r verified =
 unfoldable pub ecpOf : Settings → ℕ → Frame
 ecpOf x station =
     frameOf ECP station (x .own)
-    (wordBytes (x .cell .0) ++ (wordBytes (x .current) ++ (wordBytes (x .pack .0) ++ wordBytes (x .temperature))))
+    (wordBytes (x .limits .cell .0) ++ (wordBytes (x .limits .current .0) ++ (wordBytes (x .limits .pack .0) ++ wordBytes (x .limits .temperature .0))))
 
 -- ERM AA or 00
 unfoldable pub ermOf : Settings → ℕ → Bool → Frame
 ermOf x station accepted = frameOf ERM station (x .own) (markOf accepted ∷ 0 ∷ 0 ∷ 0 ∷ 0 ∷ 0 ∷ 0 ∷ 0 ∷ [])
 
--- Hold voltage is the smaller of 355 x cells / 10, rounded down, and maximum pack voltage
-unfoldable pub holdVoltage : Settings → Cells → ℕ
-holdVoltage x c = cond (leb (355 * c .volts .count / 10) (x .pack .0)) (355 * c .volts .count / 10) (x .pack .0)
+-- 3.55 V a cell
+abbrev pub holdCell : HundredthVolts
+holdCell = record { 0 = 355 }
 
--- a request in tenths is sent as 4000 minus it (a request is never above 4000)
-unfoldable pub rawRequest : ℕ → ℕ
-rawRequest request = 4000 - request
+-- Hold voltage is the smaller of 355 x cells / 10, rounded down, and maximum pack voltage
+unfoldable pub holdVoltage : Settings → Cells → TenthVolts
+holdVoltage x c = inSeries holdCell (c .volts .count) (x .limits .pack)
 
 -- ECR voltage, raw current, mode
 unfoldable pub ecrFrame : Settings → ℕ → ℕ → ℕ → ℕ → Frame
@@ -60,9 +62,9 @@ ecrFrame x station v i mode =
 
 -- mode 02 current, voltage 0; 01 voltage, raw current 4000. Drive asks R, Rest 0 A
 unfoldable pub ecrOf : Settings → ℕ → Cells → Phase → Frame
-ecrOf x station c (Drive request cycle time) = ecrFrame x station 0 (rawRequest request) 0x02
+ecrOf x station c (Drive request cycle time) = ecrFrame x station 0 (rawAmps request .0) 0x02
 ecrOf x station c (Rest request cycle time) = ecrFrame x station 0 4000 0x02
-ecrOf x station c (Hold time) = ecrFrame x station (holdVoltage x c) 4000 0x01
+ecrOf x station c (Hold time) = ecrFrame x station (holdVoltage x c .0) 4000 0x01
 
 -- ECS pack voltage, raw current, highest cell voltage, SOC
 unfoldable pub ecsOf : Settings → ℕ → Readings → Cells → Frame

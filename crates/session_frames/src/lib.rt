@@ -2,14 +2,16 @@
 // fields. This crate may not know when a frame is due.
 ghost use mathlib.Core.Path.{_≡_};
 ghost use Rattle.buffers.specs.Words.{high};
-ghost use Rattle.session_frames.specs.Layouts.{markOf, holdVoltage, rawRequest, eimOf, evmOf, ecpOf, ermOf, ecrFrame, ecrOf, ecsOf, esmOf, estFrame, edmOf, eemOf};
+ghost use Rattle.session_frames.specs.Layouts.{markOf, holdVoltage, eimOf, evmOf, ecpOf, ermOf, ecrFrame, ecrOf, ecsOf, esmOf, estFrame, edmOf, eemOf};
 use cells::Cells;
 use cells::sent;
 use frames::Frame;
-use session_states::phases::Phase;
+use messages::table;
 use readings::Readings;
+use session_states::phases::Phase;
 use settings::Settings;
 use units::HundredthVolts;
+use units::RawAmps;
 use units::TenthVolts;
 
 fn mark(on: bool) -> u8
@@ -29,10 +31,10 @@ fn top(w: u16) -> u8
 pub fn eim(x: Settings, station: u8, on: bool) -> Frame
     ensures { λ r. ⌜ r ≡ eimOf x station on ⌝ }
 {
-    let v = x.pack.0;
+    let v = x.limits.pack.0;
     let m = mark(on);
     Frame::new(
-        rows::eim(),
+        table::row_at(table::EIM),
         station,
         x.own,
         [(v % 256) as u8, (v / 256) as u8, m, 0, 0, 0, 0, 0],
@@ -47,7 +49,7 @@ pub fn evm(x: Settings, station: u8, r: Readings, verified: bool) -> Frame
     let v = r.pack.0;
     let m = mark(verified);
     Frame::new(
-        rows::evm(),
+        table::row_at(table::EVM),
         station,
         x.own,
         [
@@ -56,9 +58,9 @@ pub fn evm(x: Settings, station: u8, r: Readings, verified: bool) -> Frame
             0x53,
             m,
             (a % 256) as u8,
-            (a / 256) as u8,
+            top(a),
             (v % 256) as u8,
-            (v / 256) as u8,
+            top(v),
         ],
     )
 }
@@ -67,12 +69,12 @@ pub fn evm(x: Settings, station: u8, r: Readings, verified: bool) -> Frame
 pub fn ecp(x: Settings, station: u8) -> Frame
     ensures { λ f. ⌜ f ≡ ecpOf x station ⌝ }
 {
-    let a = x.cell.0;
-    let b = x.current;
-    let c = x.pack.0;
-    let d = x.temperature;
+    let a = x.limits.cell.0;
+    let b = x.limits.current.0;
+    let c = x.limits.pack.0;
+    let d = x.limits.temperature.0;
     Frame::new(
-        rows::ecp(),
+        table::row_at(table::ECP),
         station,
         x.own,
         [
@@ -93,42 +95,37 @@ pub fn erm(x: Settings, station: u8, accepted: bool) -> Frame
     ensures { λ f. ⌜ f ≡ ermOf x station accepted ⌝ }
 {
     let m = mark(accepted);
-    Frame::new(rows::erm(), station, x.own, [m, 0, 0, 0, 0, 0, 0, 0])
+    Frame::new(table::row_at(table::ERM), station, x.own, [m, 0, 0, 0, 0, 0, 0, 0])
 }
 
-// The voltage of Hold: the one place where hundredths of a volt, 3.55 V a cell, become tenths of a pack.
-pub fn hold_voltage(x: Settings, c: Cells) -> TenthVolts
-    ensures { λ r. ⌜ r .0 ≡ holdVoltage x c ⌝ }
+// 3.55 V a cell, in Hold.
+const HOLD_CELL: HundredthVolts = HundredthVolts(355);
+
+// The voltage of Hold: so much a cell in series, up to the maximum pack voltage.
+fn hold_voltage(x: Settings, c: Cells) -> TenthVolts
+    ensures { λ r. ⌜ r ≡ holdVoltage x c ⌝ }
 {
-    let cell = HundredthVolts(355);
-    let pack = cell.0 as u32 * c.volts.count as u32 / 10;
-    if pack <= x.pack.0 as u32 {
-        TenthVolts(pack as u16)
-    } else {
-        x.pack
-    }
+    HOLD_CELL.in_series(c.volts.count, x.limits.pack)
 }
 
-// A request as a raw current: 4000 minus it.
-fn raw_request(request: u16) -> u16
-    ensures { λ r. ⌜ r ≡ rawRequest request ⌝ }
-{
-    if request <= 4000 { 4000 - request } else { 0 }
-}
+// 0 A as a raw current.
+const NO_CURRENT: RawAmps = RawAmps(4000);
 
 // ECR: voltage, raw current, mode.
-fn ecr_frame(x: Settings, station: u8, v: u16, i: u16, mode: u8) -> Frame
-    ensures { λ f. ⌜ f ≡ ecrFrame x station v i mode ⌝ }
+fn ecr_frame(x: Settings, station: u8, volts: TenthVolts, raw: RawAmps, mode: u8) -> Frame
+    ensures { λ f. ⌜ f ≡ ecrFrame x station (volts .0) (raw .0) mode ⌝ }
 {
+    let v = volts.0;
+    let i = raw.0;
     Frame::new(
-        rows::ecr(),
+        table::row_at(table::ECR),
         station,
         x.own,
         [
             (v % 256) as u8,
-            (v / 256) as u8,
+            top(v),
             (i % 256) as u8,
-            (i / 256) as u8,
+            top(i),
             mode,
             0,
             0,
@@ -145,15 +142,18 @@ pub fn ecr(x: Settings, station: u8, c: Cells, p: Phase) -> Frame
             request,
             cycle: _,
             time: _,
-        } => ecr_frame(x, station, 0, raw_request(request), 0x02),
+        } => {
+            let raw = request.raw();
+            ecr_frame(x, station, TenthVolts(0), raw, 0x02)
+        }
         Phase::Rest {
             request: _,
             cycle: _,
             time: _,
-        } => ecr_frame(x, station, 0, 4000, 0x02),
+        } => ecr_frame(x, station, TenthVolts(0), NO_CURRENT, 0x02),
         Phase::Hold { time: _ } => {
             let v = hold_voltage(x, c);
-            ecr_frame(x, station, v.0, 4000, 0x01)
+            ecr_frame(x, station, v, NO_CURRENT, 0x01)
         }
     }
 }
@@ -167,7 +167,7 @@ pub fn ecs(x: Settings, station: u8, r: Readings, c: Cells) -> Frame
     let h = c.volts.highest.value;
     let soc = r.soc;
     Frame::new(
-        rows::ecs(),
+        table::row_at(table::ECS),
         station,
         x.own,
         [
@@ -193,7 +193,7 @@ pub fn esm(x: Settings, station: u8, c: Cells) -> Frame
     let e = c.heat.lowest.value;
     let f = sent::index_byte(c.heat.lowest.index);
     Frame::new(
-        rows::esm(),
+        table::row_at(table::ESM),
         station,
         x.own,
         [a, (b % 256) as u8, d, (e % 256) as u8, f, 0x01, 0, 0],
@@ -206,7 +206,7 @@ pub fn est(x: Settings, station: u8, first: u8, second: u8, acknowledged: bool) 
 {
     let m = mark(acknowledged);
     Frame::new(
-        rows::est(),
+        table::row_at(table::EST),
         station,
         x.own,
         [first, second, m, 0, 0, 0, 0, 0],
@@ -223,7 +223,7 @@ pub fn edm(x: Settings, station: u8, r: Readings, c: Cells) -> Frame
     let d = c.heat.lowest.value;
     let e = c.heat.highest.value;
     Frame::new(
-        rows::edm(),
+        table::row_at(table::EDM),
         station,
         x.own,
         [
@@ -244,7 +244,7 @@ pub fn eem(x: Settings, station: u8) -> Frame
     ensures { λ f. ⌜ f ≡ eemOf x station ⌝ }
 {
     Frame::new(
-        rows::eem(),
+        table::row_at(table::EEM),
         station,
         x.own,
         [0x10, 0x00, 0x00, 0, 0, 0, 0, 0],

@@ -5,8 +5,8 @@ use borrow.Author.Needs.{needs}
 use Rattle.session_frames.proofs.ecp.Statement.{statement}
 use Rattle.session_frames.proofs.ecp.Tie as tie
 
-ecp-requires : tie.Need-ecp-requires
-ecp-requires c κs = search needs
+row-at-requires : tie.Need-row-at-requires
+row-at-requires c κs = search needs
 
 cast-t9 : tie.Need-cast-t9
 cast-t9 c = search needs
@@ -37,13 +37,13 @@ new-requires c κs = search needs
 
 returns : tie.Need-returns
 unfolding ecpOf
-returns c = c .new .ensures ∙ rw (c .before .ecp .ensures)
+returns c = c .new .ensures ∙ rw (c .before .row-at .ensures)
 
 pub ecp-spec : {M : Type 1} → statement M
 ecp-spec =
     tie.close
     (tie.spec
-    ecp-requires
+    row-at-requires
     cast-t9
     cast-t11
     cast-t13

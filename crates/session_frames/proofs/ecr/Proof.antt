@@ -1,4 +1,4 @@
--- `session_frames::ecr` meets its contract: a line a phase. Assumes nothing.
+-- `ecr` meets its contract. Assumes nothing.
 use mathlib.Core.Path.{_∙_}
 use Rattle.session_frames.specs.Layouts.{ecrOf}
 use borrow.Author.Needs.{needs}
@@ -8,8 +8,8 @@ use Rattle.session_frames.proofs.ecr.Tie as tie
 enum-known-p : tie.Need-enum-known-p
 enum-known-p c = search needs
 
-raw-request-requires : tie.Need-raw-request-requires
-raw-request-requires c κs = search needs
+raw-requires : tie.Need-raw-requires
+raw-requires c κs = search needs
 
 ecr-frame-requires : tie.Need-ecr-frame-requires
 ecr-frame-requires c κs = search needs
@@ -31,7 +31,7 @@ ecr-frame-requires-3 c κs = search needs
 
 returns : tie.Need-returns
 unfolding ecrOf
-returns c = rw (c .before .before .before .p .given .1) (c .ecr-frame .ensures ∙ rw (c .before .raw-request .ensures))
+returns c = rw (c .before .before .before .p .given .1) (c .ecr-frame .ensures ∙ rw (c .before .raw .ensures))
 
 returns-2 : tie.Need-returns-2
 unfolding ecrOf
@@ -46,7 +46,7 @@ ecr-spec =
     tie.close
     (tie.spec
     enum-known-p
-    raw-request-requires
+    raw-requires
     ecr-frame-requires
     enum-told
     ecr-frame-requires-2

@@ -8,8 +8,8 @@ use Rattle.session_frames.proofs.ecs.Tie as tie
 raw-current-requires : tie.Need-raw-current-requires
 raw-current-requires c κs = search needs
 
-ecs-requires : tie.Need-ecs-requires
-ecs-requires c κs = search needs
+row-at-requires : tie.Need-row-at-requires
+row-at-requires c κs = search needs
 
 cast-t11 : tie.Need-cast-t11
 cast-t11 c = search needs
@@ -34,14 +34,14 @@ new-requires c κs = search needs
 
 returns : tie.Need-returns
 unfolding ecsOf
-returns c = c .new .ensures ∙ rw (c .before .before .before .before .ecs .ensures, c .before .before .before .top .ensures, c .before .before .top2 .ensures, c .before .top3 .ensures, c .before .before .before .before .before .raw-current .ensures)
+returns c = c .new .ensures ∙ rw (c .before .before .before .before .row-at .ensures, c .before .before .before .top .ensures, c .before .before .top2 .ensures, c .before .top3 .ensures, c .before .before .before .before .before .raw-current .ensures)
 
 pub ecs-spec : {M : Type 1} → statement M
 ecs-spec =
     tie.close
     (tie.spec
     raw-current-requires
-    ecs-requires
+    row-at-requires
     cast-t11
     top-requires
     cast-t14

@@ -5,8 +5,8 @@ use borrow.Author.Needs.{needs}
 use Rattle.session_frames.proofs.edm.Statement.{statement}
 use Rattle.session_frames.proofs.edm.Tie as tie
 
-edm-requires : tie.Need-edm-requires
-edm-requires c κs = search needs
+row-at-requires : tie.Need-row-at-requires
+row-at-requires c κs = search needs
 
 cast-t12 : tie.Need-cast-t12
 cast-t12 c = search needs
@@ -31,13 +31,13 @@ new-requires c κs = search needs
 
 returns : tie.Need-returns
 unfolding edmOf
-returns c = c .new .ensures ∙ rw (c .before .before .before .edm .ensures, c .before .before .top .ensures, c .before .top2 .ensures)
+returns c = c .new .ensures ∙ rw (c .before .before .before .row-at .ensures, c .before .before .top .ensures, c .before .top2 .ensures)
 
 pub edm-spec : {M : Type 1} → statement M
 edm-spec =
     tie.close
     (tie.spec
-    edm-requires
+    row-at-requires
     cast-t12
     top-requires
     cast-t15

@@ -5,15 +5,15 @@ use borrow.Author.Needs.{needs}
 use Rattle.session_frames.proofs.eem.Statement.{statement}
 use Rattle.session_frames.proofs.eem.Tie as tie
 
-eem-requires : tie.Need-eem-requires
-eem-requires c κs = search needs
+row-at-requires : tie.Need-row-at-requires
+row-at-requires c κs = search needs
 
 new-requires : tie.Need-new-requires
 new-requires c κs = search needs
 
 returns : tie.Need-returns
 unfolding eemOf
-returns c = c .new .ensures ∙ rw (c .before .eem .ensures)
+returns c = c .new .ensures ∙ rw (c .before .row-at .ensures)
 
 pub eem-spec : {M : Type 1} → statement M
-eem-spec = tie.close (tie.spec eem-requires new-requires returns)
+eem-spec = tie.close (tie.spec row-at-requires new-requires returns)

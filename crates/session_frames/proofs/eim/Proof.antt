@@ -8,8 +8,8 @@ use Rattle.session_frames.proofs.eim.Tie as tie
 mark-requires : tie.Need-mark-requires
 mark-requires c κs = search needs
 
-eim-requires : tie.Need-eim-requires
-eim-requires c κs = search needs
+row-at-requires : tie.Need-row-at-requires
+row-at-requires c κs = search needs
 
 cast-t8 : tie.Need-cast-t8
 cast-t8 c = search needs
@@ -22,7 +22,7 @@ new-requires c κs = search needs
 
 returns : tie.Need-returns
 unfolding eimOf
-returns c = c .new .ensures ∙ rw (c .before .eim .ensures, c .before .before .mark .ensures)
+returns c = c .new .ensures ∙ rw (c .before .row-at .ensures, c .before .before .mark .ensures)
 
 pub eim-spec : {M : Type 1} → statement M
-eim-spec = tie.close (tie.spec mark-requires eim-requires cast-t8 cast-t10 new-requires returns)
+eim-spec = tie.close (tie.spec mark-requires row-at-requires cast-t8 cast-t10 new-requires returns)

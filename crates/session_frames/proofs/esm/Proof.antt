@@ -14,8 +14,8 @@ index-byte-requires-2 c κs = search needs
 index-byte-requires-3 : tie.Need-index-byte-requires-3
 index-byte-requires-3 c κs = search needs
 
-esm-requires : tie.Need-esm-requires
-esm-requires c κs = search needs
+row-at-requires : tie.Need-row-at-requires
+row-at-requires c κs = search needs
 
 cast-t11 : tie.Need-cast-t11
 cast-t11 c = search needs
@@ -28,7 +28,7 @@ new-requires c κs = search needs
 
 returns : tie.Need-returns
 unfolding esmOf
-returns c = c .new .ensures ∙ rw (c .before .esm .ensures, c .before .before .before .before .index-byte .ensures, c .before .before .before .index-byte2 .ensures, c .before .before .index-byte3 .ensures)
+returns c = c .new .ensures ∙ rw (c .before .row-at .ensures, c .before .before .before .before .index-byte .ensures, c .before .before .before .index-byte2 .ensures, c .before .before .index-byte3 .ensures)
 
 pub esm-spec : {M : Type 1} → statement M
 esm-spec =
@@ -37,7 +37,7 @@ esm-spec =
     index-byte-requires
     index-byte-requires-2
     index-byte-requires-3
-    esm-requires
+    row-at-requires
     cast-t11
     cast-t13
     new-requires

@@ -8,15 +8,15 @@ use Rattle.session_frames.proofs.est.Tie as tie
 mark-requires : tie.Need-mark-requires
 mark-requires c κs = search needs
 
-est-requires : tie.Need-est-requires
-est-requires c κs = search needs
+row-at-requires : tie.Need-row-at-requires
+row-at-requires c κs = search needs
 
 new-requires : tie.Need-new-requires
 new-requires c κs = search needs
 
 returns : tie.Need-returns
 unfolding estFrame
-returns c = c .new .ensures ∙ rw (c .before .est .ensures, c .before .before .mark .ensures)
+returns c = c .new .ensures ∙ rw (c .before .row-at .ensures, c .before .before .mark .ensures)
 
 pub est-spec : {M : Type 1} → statement M
-est-spec = tie.close (tie.spec mark-requires est-requires new-requires returns)
+est-spec = tie.close (tie.spec mark-requires row-at-requires new-requires returns)
