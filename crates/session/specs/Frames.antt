@@ -13,6 +13,7 @@ use Rattle.session_states.specs.declared.states.Est.{Est}
 use Rattle.session_states.specs.declared.states.Est.the-variants.{Awaited, Fixed}
 use Rattle.session_states.specs.declared.states.State.{State}
 use Rattle.session_states.specs.declared.states.State.the-variants.{Idle, Offered, Unverified, Parameters, Ready, Charging, Stopping, Error}
+use Rattle.session_states.specs.Limits.{firstEcp}
 use Rattle.session_by_tick.specs.declared.Turn.{Turn}
 use Rattle.session_by_tick.specs.declared.Turn.the-variants.{On, Enter, Farewell, End}
 use Rattle.session_frames.specs.Layouts.{eimOf, evmOf, ecpOf, ermOf, ecrOf, ecsOf, esmOf, estFrame, edmOf, eemOf}
@@ -32,7 +33,7 @@ each5 count fs = cond (isFifth count) fs []
 -- Parameters EVM at 0, ECP at 5, 15, 25 and so on
 unfoldable pub parametersFrames : Settings → Readings → ℕ → ℕ → List Frame
 parametersFrames x r station count =
-    cond (eqb count 0) (evmOf x station r true ∷ []) (cond (eqb (count % 10) 5) (ecpOf x station ∷ []) [])
+    cond (eqb count 0) (evmOf x station r true ∷ []) (cond (eqb (count % 10) firstEcp) (ecpOf x station ∷ []) [])
 
 -- Charging ECR each tick, ECS and ESM each 5
 unfoldable pub chargingFrames : Settings → Readings → Cells → ℕ → ℕ → Phase → List Frame
@@ -54,7 +55,7 @@ framesIn x r c station count Idle = []
 framesIn x r c station count Offered = each5 count (eimOf x station true ∷ [])
 framesIn x r c station count Unverified = each5 count (evmOf x station r false ∷ [])
 framesIn x r c station count Parameters = parametersFrames x r station count
-framesIn x r c station count (Ready accepted most) = each5 count (ermOf x station accepted ∷ [])
+framesIn x r c station count (Ready accepted maximum) = each5 count (ermOf x station accepted ∷ [])
 framesIn x r c station count (Charging p) = chargingFrames x r c station count p
 framesIn x r c station count (Stopping acknowledged est) = stoppingFrames x r c station count acknowledged est
 framesIn x r c station count Error = each5 count (eemOf x station ∷ [])

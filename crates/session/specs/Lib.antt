@@ -1,4 +1,4 @@
+pub mod Session
 pub mod Message
 pub mod Frames
 pub mod Tick
-pub mod Reads

@@ -7,12 +7,13 @@ use crate::ChargeFrames;
 use crate::Session;
 use cells::Cells;
 use frames::Frame;
-use session_states::phases::Phase;
 use readings::Readings;
-use settings::Settings;
+use session_by_tick::Turn;
+use session_states::limits;
+use session_states::phases::Phase;
 use session_states::states::Est;
 use session_states::states::State;
-use session_by_tick::Turn;
+use settings::Settings;
 
 fn nothing() -> Frame {
     Frame {
@@ -67,7 +68,7 @@ fn three(a: Frame, b: Frame, c: Frame) -> ChargeFrames
     }
 }
 
-pub fn is_fifth(count: u16) -> bool
+fn is_fifth(count: u16) -> bool
     ensures { λ r. ⌜ r ≡ isFifth count ⌝ }
 {
     count % 5 == 0
@@ -84,7 +85,7 @@ fn parameters(x: Settings, r: Readings, station: u8, count: u16) -> ChargeFrames
 {
     if count == 0 {
         one(session_frames::evm(x, station, r, true))
-    } else if count % 10 == 5 {
+    } else if count % 10 == limits::FIRST_ECP {
         one(session_frames::ecp(x, station))
     } else {
         none()
@@ -148,7 +149,10 @@ fn in_state(
         State::Offered => one_each_5(count, session_frames::eim(x, station, true)),
         State::Unverified => one_each_5(count, session_frames::evm(x, station, r, false)),
         State::Parameters => parameters(x, r, station, count),
-        State::Ready { accepted, most: _ } => {
+        State::Ready {
+            accepted,
+            maximum: _,
+        } => {
             one_each_5(count, session_frames::erm(x, station, accepted))
         }
         State::Charging(p) => charging(x, r, c, station, count, p),

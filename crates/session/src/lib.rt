@@ -2,20 +2,20 @@
 // by message", "Session by tick"). A library on values: it may not know settings bytes, addresses of others, queries, broadcasts or
 // buffers.
 ghost use mathlib.Core.Path.{_≡_};
-ghost use Rattle.session.specs.Message.{idleSession, messageOf};
+ghost use Rattle.session.specs.Session.{idleSession, withStation, withSilence, withCount, withState, begun, opened};
+ghost use Rattle.session.specs.Message.{messageOf};
 ghost use Rattle.session.specs.Frames.{frameList};
 ghost use Rattle.session.specs.Tick.{tickOf, sentOf};
 use cells::Cells;
 use charge_messages::ChargeMessage;
 use frames::Frame;
 use readings::Readings;
-use settings::Settings;
 use session_states::states::State;
+use settings::Settings;
 
 pub mod counts;
 pub mod due;
 pub mod outcome;
-pub mod reads;
 
 // The state with its count, the silence count, and the station that the session is with. In Idle the three numbers are 0.
 pub struct Session {
@@ -45,6 +45,7 @@ pub struct Ticked {
     pub frames: ChargeFrames,
 }
 
+// Sessions made, and with one part changed and the others as they were.
 impl Session {
     pub fn idle() -> Session
         ensures { λ r. ⌜ r ≡ idleSession ⌝ }
@@ -57,6 +58,59 @@ impl Session {
         }
     }
 
+    fn with_station(mut self, station: u8) -> Session
+        ensures { λ r. ⌜ r ≡ withStation self station ⌝ }
+    {
+        self.station = station;
+        self
+    }
+
+    pub fn with_silence(mut self, silence: u8) -> Session
+        ensures { λ r. ⌜ r ≡ withSilence self silence ⌝ }
+    {
+        self.silence = silence;
+        self
+    }
+
+    pub fn with_count(mut self, count: u16) -> Session
+        ensures { λ r. ⌜ r ≡ withCount self count ⌝ }
+    {
+        self.count = count;
+        self
+    }
+
+    // The one place that names every field: a field that is an enum is not stored to.
+    pub fn with_state(self, state: State) -> Session
+        ensures { λ r. ⌜ r ≡ withState self state ⌝ }
+    {
+        Session {
+            station: self.station,
+            silence: self.silence,
+            count: self.count,
+            state: state,
+        }
+    }
+
+    // A state begins: its count is 0, and so is silence.
+    pub fn begun(self, state: State) -> Session
+        ensures { λ r. ⌜ r ≡ begun self state ⌝ }
+    {
+        let silent = self.with_silence(0);
+        let counted = silent.with_count(0);
+        counted.with_state(state)
+    }
+
+    // A session just opened with a station.
+    pub fn opened(source: u8) -> Session
+        ensures { λ r. ⌜ r ≡ opened source ⌝ }
+    {
+        let idle = Session::idle();
+        let with = idle.with_station(source);
+        with.begun(State::Offered)
+    }
+}
+
+impl Session {
     // A charge message of the session's station; in Idle, of a listed station.
     pub fn message(self, x: Settings, source: u8, m: ChargeMessage) -> Taken
         ensures { λ r. ⌜ r ≡ messageOf x source self m ⌝ }

@@ -1,6 +1,8 @@
 // What a charge message of the session's station comes to in each state (01, "Session by message"): an outcome a state and message, a
 // line each, read against the paper, and the yes rule of CMP. This crate may not know addresses, silence, ticks or frames; that a
 // frame has gone out it tells by the state's count.
+ghost use mathlib.Core.Path.{_≡_};
+ghost use Rattle.session_by_message.specs.Message.{outcomeNumber};
 use session_states::states::State;
 
 pub mod message;
@@ -22,4 +24,21 @@ pub enum Outcome {
     Keep(State),
     // Taken: the session ends to Idle.
     End,
+}
+
+impl Outcome {
+    // 0 is taken, 11 is not taken in this state.
+    pub fn number(self) -> u8
+        ensures { λ r. ⌜ r ≡ outcomeNumber self ⌝ }
+    {
+        match self {
+            Outcome::Refuse => 11,
+            Outcome::OutOfStep => 11,
+            Outcome::Open => 0,
+            Outcome::Heard => 0,
+            Outcome::Enter(_) => 0,
+            Outcome::Keep(_) => 0,
+            Outcome::End => 0,
+        }
+    }
 }

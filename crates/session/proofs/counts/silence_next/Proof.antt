@@ -1,6 +1,5 @@
--- `session::counts::silence_next` meets its contract. Assumes nothing.
+-- `counts::silence_next` meets its contract. Assumes nothing.
 use borrow.Author.Tests.{le-leb, lt-leb}
-use Rattle.session.specs.Tick.{silenceOf}
 use borrow.Author.Needs.{needs}
 use Rattle.session.proofs.counts.silence_next.Statement.{statement}
 use Rattle.session.proofs.counts.silence_next.Tie as tie
@@ -9,11 +8,9 @@ add-result : tie.Need-add-result
 add-result c = search needs
 
 returns : tie.Need-returns
-unfolding silenceOf
 returns c = rw (le-leb _ _ (c .if1 .taken))
 
 returns-2 : tie.Need-returns-2
-unfolding silenceOf
 returns-2 c = rw (lt-leb _ _ (c .if1 .left))
 
 pub silence-next-spec : {M : Type 1} → statement M
