@@ -8,13 +8,13 @@ use native.Mathlib.Numerals.{add-one}
 use native.Mathlib.Nat.{add-mul-mod-self-right, mul-assoc}
 use borrow.Author.Tests.{leb-true, leb-false, ltb-true, ltb-false, le-leb, lt-leb, eq-eqb, ne-eqb}
 use lib.Dec.{ltb, leb, eqb}
-use Rattle.session_states.specs.Phases.{nextCount}
+use Rattle.session_states.specs.Counts.{nextCount, nextUpTo}
 use Rattle.session_paper_counts.specs.Folds.{fold}
 
 -- the fold of one more is one step more of the fold
-pub fold-next : (top back n : ℕ) → fold top back (n + 1) ≡ nextCount top back (fold top back n)
+pub fold-next : (next : ℕ → ℕ) (n : ℕ) → fold next (n + 1) ≡ next (fold next n)
 unfolding fold
-fold-next top back n = rw (add-one n)
+fold-next next n = rw (add-one n)
 
 -- n is its fold and some whole turns; where there is a turn, the fold has passed `back`
 pub record Folded (back p n f : ℕ) : Type 0 where
@@ -34,11 +34,11 @@ folded-step back p n f h false e =
       passed = ⊎-elim (λ z. inl z) (λ z. inr (omega arith)) (h .passed);
     }
 
-pub folded : (back p n : ℕ) → Folded back p n (fold (back + p) back n)
+pub folded : (back p n : ℕ) → Folded back p n (fold (nextCount (back + p) back) n)
 unfolding fold
 folded back p zero = record { turns = 0; sum = omega arith; low = omega arith; passed = inl refl }
 folded back p (suc n) =
-    folded-step back p n (fold (back + p) back n) (folded back p n) (leb (back + p) (fold (back + p) back n)) refl
+    folded-step back p n (fold (nextCount (back + p) back) n) (folded back p n) (leb (back + p) (fold (nextCount (back + p) back) n)) refl
 
 no-turns : (p n f k : ℕ) → n ≡ f + k * (p + 1) → k ≡ 0 → n ≡ f
 no-turns p n f k e z = let q : k * (p + 1) ≡ 0 * (p + 1) = ap (λ (x : ℕ). x * (p + 1)) z in omega arith
@@ -50,11 +50,11 @@ leb-any t back p n f lt h false e =
     (λ z. absurd (omega (arith, leb-false t f e))) (h .passed)
 
 -- a test up to `back` answers the same of the fold
-pub fold-leb : (t back p n : ℕ) → t ≤ back → leb t (fold (back + p) back n) ≡ leb t n
+pub fold-leb : (t back p n : ℕ) → t ≤ back → leb t (fold (nextCount (back + p) back) n) ≡ leb t n
 fold-leb t back p n lt =
-    leb-any t back p n (fold (back + p) back n) lt (folded back p n) (leb t (fold (back + p) back n)) refl
+    leb-any t back p n (fold (nextCount (back + p) back) n) lt (folded back p n) (leb t (fold (nextCount (back + p) back) n)) refl
 
-pub fold-ltb : (t back p n : ℕ) → t < back → ltb t (fold (back + p) back n) ≡ ltb t n
+pub fold-ltb : (t back p n : ℕ) → t < back → ltb t (fold (nextCount (back + p) back) n) ≡ ltb t n
 fold-ltb t back p n lt = fold-leb (suc t) back p n lt
 
 zero-alike : (f n : ℕ) (x : Bool) → ltb 0 f ≡ x → ltb 0 n ≡ x → eqb f 0 ≡ eqb n 0
@@ -64,17 +64,28 @@ zero-alike f n false p q =
     eq-eqb f 0 (omega (arith, ltb-false 0 f p)) ∙ sym (eq-eqb n 0 (omega (arith, ltb-false 0 n q)))
 
 -- only 0 folds to 0
-pub fold-zero : (back p n : ℕ) → 0 < back → eqb (fold (back + p) back n) 0 ≡ eqb n 0
-fold-zero back p n h = zero-alike (fold (back + p) back n) n (ltb 0 n) (fold-ltb 0 back p n h) refl
+pub fold-zero : (back p n : ℕ) → 0 < back → eqb (fold (nextCount (back + p) back) n) 0 ≡ eqb n 0
+fold-zero back p n h = zero-alike (fold (nextCount (back + p) back) n) n (ltb 0 n) (fold-ltb 0 back p n h) refl
 
 mod-any : (d e p n f k : ℕ) → p + 1 ≡ e * d → n ≡ f + k * (p + 1) → f % d ≡ n % d
 mod-any d e p n f k h s = rw (s, h, ← mul-assoc k e d) (sym (add-mul-mod-self-right f (k * e) d))
 
 -- a remainder by a divisor of the turn is the same of the fold
-pub fold-mod : (d e back p n : ℕ) → p + 1 ≡ e * d → fold (back + p) back n % d ≡ n % d
+pub fold-mod : (d e back p n : ℕ) → p + 1 ≡ e * d → fold (nextCount (back + p) back) n % d ≡ n % d
 fold-mod d e back p n h =
-    mod-any d e p n (fold (back + p) back n) (folded back p n .turns) h (folded back p n .sum)
+    mod-any d e p n (fold (nextCount (back + p) back) n) (folded back p n .turns) h (folded back p n .sum)
 
 -- a fold is never above `top`
-pub fold-low : (back p n : ℕ) → fold (back + p) back n ≤ back + p
+pub fold-low : (back p n : ℕ) → fold (nextCount (back + p) back) n ≤ back + p
 fold-low back p n = folded back p n .low
+
+-- a count that stays at its limit is as it was up to there
+up-to : (limit n f : ℕ) → f ≡ n → suc n ≤ limit → (t : Bool) → leb limit f ≡ t → cond t limit (f + 1) ≡ suc n
+up-to limit n f e h true k = absurd (omega (arith, e, leb-true limit f k))
+up-to limit n f e h false k = omega (arith, e)
+
+pub fold-up-to : (limit n : ℕ) → n ≤ limit → fold (nextUpTo limit) n ≡ n
+unfolding fold
+fold-up-to limit zero h = refl
+fold-up-to limit (suc n) h =
+    up-to limit n (fold (nextUpTo limit) n) (fold-up-to limit n (omega arith)) h (leb limit (fold (nextUpTo limit) n)) refl

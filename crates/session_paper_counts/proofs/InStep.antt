@@ -8,7 +8,8 @@ use Rattle.charge_messages.specs.declared.ChargeMessage.{ChargeMessage}
 use Rattle.session_by_tick.specs.declared.Turn.{Turn}
 use Rattle.session.specs.declared.Session.{Session}
 use Rattle.session.specs.declared.Taken.{Taken}
-use Rattle.session.specs.Message.{idleSession, messageOf}
+use Rattle.session.specs.Session.{idleSession}
+use Rattle.session.specs.Message.{messageOf}
 use Rattle.session.specs.Frames.{framesOf}
 use Rattle.session.specs.Tick.{turnIn, turnedBy, advanceOf, tickOf, sentOf}
 use Rattle.session_paper_counts.specs.Literal.{literalTick}
@@ -29,7 +30,7 @@ tick-in-step x r c s = advance-folds (turnedBy s (turnIn x r c s)) ∙ ap advanc
 sent-after : (x : Settings) (r : Readings) (c : Cells) (s : Session) (a : ℕ) →
     framesOf x r c a (turnIn x r c s) (turnedBy s (turnIn x r c s)) ≡ framesOf x r c a (turnIn x r c (folds s)) (turnedBy (folds s) (turnIn x r c (folds s)))
 sent-after x r c s a =
-    frames-of x r c a (turnIn x r c s) (turnedBy s (turnIn x r c s))
+    frames-of x r c a s
     ∙ (ap (λ (t : Turn). framesOf x r c a t (folds (turnedBy s (turnIn x r c s)))) (turn-in x r c s)
     ∙ ap (framesOf x r c a (turnIn x r c (folds s))) (turned-folds x r c s))
 

@@ -4,19 +4,23 @@ use mathlib.Core.Bool.{Bool, true, false, cond, _&&_}
 use Prim.Native.Nat.{ℕ}
 use native.Mathlib.Omega.{arith}
 use lib.Dec.{ltb}
+use Rattle.units.specs.declared.TenthAmps.{TenthAmps}
+use Rattle.units.specs.Units.{lesserAmps}
 use Rattle.settings.specs.declared.Settings.{Settings}
 use Rattle.charge_messages.specs.declared.ChargeMessage.{ChargeMessage}
 use Rattle.charge_messages.specs.declared.Offer.{Offer}
 use Rattle.charge_messages.specs.declared.ChargeMessage.the-variants.{Cim, Cvm, Cmp, Crm, Ccs, Cst, Cem}
-use Rattle.session_states.specs.Phases.{startPhase, lesserOf}
+use Rattle.session_states.specs.Limits.{closingLimit, firstEcp}
+use Rattle.session_states.specs.Counts.{nextEachFive, nextEcp, nextUpTo}
+use Rattle.session_states.specs.Phases.{tooSmall, startPhase}
 use Rattle.session_states.specs.declared.states.Est.{Est}
 use Rattle.session_states.specs.declared.states.Est.the-variants.{Awaited}
 use Rattle.session_states.specs.declared.states.State.{State}
 use Rattle.session_states.specs.declared.states.State.the-variants.{Idle, Offered, Unverified, Parameters, Ready, Charging, Stopping, Error}
 use Rattle.session_by_message.specs.declared.Outcome.{Outcome}
 use Rattle.session_by_message.specs.declared.Outcome.the-variants.{Refuse, OutOfStep, Open, Heard, Enter, Keep, End}
-use Rattle.session_by_message.specs.Message.{outcomeOf, inIdle, inOffered, inUnverified, inParameters, inReady, readyOf, crmOf, inCharging, inStopping, inError}
-use Rattle.session_by_message.specs.Offer.{acceptedOf, stationMost}
+use Rattle.session_by_message.specs.Message.{outcomeOf, inIdle, inOffered, inUnverified, inParameters, inReady, readyOf, crmInReady, inCharging, inStopping, inError}
+use Rattle.session_by_message.specs.Offer.{acceptedOf, stationMaximum}
 use Rattle.session.specs.declared.Session.{Session}
 use Rattle.session.specs.declared.Taken.{Taken}
 use Rattle.session.specs.Message.{appliedOf, sessionAfter, messageOf}
@@ -25,19 +29,19 @@ use Rattle.session_paper_counts.proofs.Fold.{fold-ltb}
 use Rattle.session_paper_counts.proofs.Turns.{both}
 
 -- a phase that begins has time 0, which is its own fold
-start-folds : (maximum station : ℕ) → foldPhase (startPhase maximum station) ≡ startPhase maximum station
+start-folds : (maximum station : TenthAmps) → foldPhase (startPhase maximum station) ≡ startPhase maximum station
 unfolding startPhase foldPhase fold
-start-folds maximum station = both foldPhase (ltb (lesserOf maximum station) 60) refl refl
+start-folds maximum station = both foldPhase (tooSmall (lesserAmps maximum station)) refl refl
 
 -- "has one gone out" is the same of the fold
-gone-5 : (n : ℕ) → ltb 0 (fold 5 1 n) ≡ ltb 0 n
-gone-5 n = fold-ltb 0 1 4 n (omega arith)
+gone-five : (n : ℕ) → ltb 0 (fold nextEachFive n) ≡ ltb 0 n
+gone-five n = fold-ltb 0 1 4 n (omega arith)
 
-gone-15 : (n : ℕ) → ltb 5 (fold 15 6 n) ≡ ltb 5 n
-gone-15 n = fold-ltb 5 6 9 n (omega arith)
+gone-ecp : (n : ℕ) → ltb firstEcp (fold nextEcp n) ≡ ltb firstEcp n
+gone-ecp n = fold-ltb firstEcp 6 9 n (omega arith)
 
-gone-604 : (n : ℕ) → ltb 0 (fold 604 600 n) ≡ ltb 0 n
-gone-604 n = fold-ltb 0 600 4 n (omega arith)
+gone-closing : (n : ℕ) → ltb 0 (fold (nextUpTo closingLimit) n) ≡ ltb 0 n
+gone-closing n = fold-ltb 0 closingLimit 0 n (omega arith)
 
 abbrev pub foldTaken : Taken → Taken
 foldTaken t = record { number = t .number; session = folds (t .session) }
@@ -60,7 +64,7 @@ begins Idle = refl
 begins Offered = refl
 begins Unverified = refl
 begins Parameters = refl
-begins (Ready accepted most) = refl
+begins (Ready accepted maximum) = refl
 begins (Charging p) = refl
 begins (Stopping acknowledged est) = refl
 begins Error = refl
@@ -104,9 +108,9 @@ unverified = enter Unverified Unverified refl
 
 ready : {st : State} (x : Settings) (o : Offer) → Alike st (readyOf x o) (readyOf x o)
 unfolding readyOf foldState
-ready x o = enter (Ready (acceptedOf x o) (stationMost o)) (Ready (acceptedOf x o) (stationMost o)) refl
+ready x o = enter (Ready (acceptedOf x o) (stationMaximum o)) (Ready (acceptedOf x o) (stationMaximum o)) refl
 
-charging : {st : State} (maximum station : ℕ) → Alike st (Enter (Charging (startPhase maximum station))) (Enter (Charging (startPhase maximum station)))
+charging : {st : State} (maximum station : TenthAmps) → Alike st (Enter (Charging (startPhase maximum station))) (Enter (Charging (startPhase maximum station)))
 unfolding foldState
 charging maximum station = enter (Charging (startPhase maximum station)) (Charging (startPhase maximum station)) (ap Charging (start-folds maximum station))
 
@@ -115,7 +119,7 @@ unfolding foldState
 stopping acknowledged = enter (Stopping acknowledged Awaited) (Stopping acknowledged Awaited) refl
 
 outcome-alike : (x : Settings) (st : State) (n : ℕ) (m : ChargeMessage) → Alike st (outcomeOf x st n m) (outcomeOf x (foldState st) (foldCount st n) m)
-unfolding outcomeOf inIdle inOffered inUnverified inParameters inReady crmOf inCharging inStopping inError foldState foldCount
+unfolding outcomeOf inIdle inOffered inUnverified inParameters inReady crmInReady inCharging inStopping inError foldState foldCount
 outcome-alike x Idle n Cim = opens
 outcome-alike x Idle n (Cvm b) = refuse
 outcome-alike x Idle n (Cmp o) = refuse
@@ -124,7 +128,7 @@ outcome-alike x Idle n (Ccs b) = refuse
 outcome-alike x Idle n (Cst b) = refuse
 outcome-alike x Idle n Cem = refuse
 outcome-alike x Offered n Cim = heard
-outcome-alike x Offered n (Cvm b) = rw (gone-5 n) (either (ltb 0 n) (either b parameters unverified) outOfStep)
+outcome-alike x Offered n (Cvm b) = rw (gone-five n) (either (ltb 0 n) (either b parameters unverified) outOfStep)
 outcome-alike x Offered n (Cmp o) = outOfStep
 outcome-alike x Offered n (Crm b) = outOfStep
 outcome-alike x Offered n (Ccs b) = outOfStep
@@ -139,18 +143,18 @@ outcome-alike x Unverified n (Cst b) = stopping true
 outcome-alike x Unverified n Cem = ends
 outcome-alike x Parameters n Cim = refuse
 outcome-alike x Parameters n (Cvm b) = either b heard outOfStep
-outcome-alike x Parameters n (Cmp o) = rw (gone-15 n) (either (ltb 5 n) (ready x o) outOfStep)
+outcome-alike x Parameters n (Cmp o) = rw (gone-ecp n) (either (ltb firstEcp n) (ready x o) outOfStep)
 outcome-alike x Parameters n (Crm b) = outOfStep
 outcome-alike x Parameters n (Ccs b) = outOfStep
 outcome-alike x Parameters n (Cst b) = stopping true
 outcome-alike x Parameters n Cem = ends
-outcome-alike x (Ready accepted most) n Cim = refuse
-outcome-alike x (Ready accepted most) n (Cvm b) = outOfStep
-outcome-alike x (Ready accepted most) n (Cmp o) = ready x o
-outcome-alike x (Ready accepted most) n (Crm b) = rw (gone-5 n) (either (accepted && ltb 0 n) (either b (charging (x .current) most) heard) outOfStep)
-outcome-alike x (Ready accepted most) n (Ccs b) = outOfStep
-outcome-alike x (Ready accepted most) n (Cst b) = stopping true
-outcome-alike x (Ready accepted most) n Cem = ends
+outcome-alike x (Ready accepted maximum) n Cim = refuse
+outcome-alike x (Ready accepted maximum) n (Cvm b) = outOfStep
+outcome-alike x (Ready accepted maximum) n (Cmp o) = ready x o
+outcome-alike x (Ready accepted maximum) n (Crm b) = rw (gone-five n) (either (accepted && ltb 0 n) (either b (charging (x .limits .current) maximum) heard) outOfStep)
+outcome-alike x (Ready accepted maximum) n (Ccs b) = outOfStep
+outcome-alike x (Ready accepted maximum) n (Cst b) = stopping true
+outcome-alike x (Ready accepted maximum) n Cem = ends
 outcome-alike x (Charging p) n Cim = refuse
 outcome-alike x (Charging p) n (Cvm b) = refuse
 outcome-alike x (Charging p) n (Cmp o) = refuse
@@ -163,7 +167,7 @@ outcome-alike x (Stopping acknowledged est) n (Cvm b) = refuse
 outcome-alike x (Stopping acknowledged est) n (Cmp o) = refuse
 outcome-alike x (Stopping acknowledged est) n (Crm b) = refuse
 outcome-alike x (Stopping acknowledged est) n (Ccs b) = refuse
-outcome-alike x (Stopping acknowledged est) n (Cst b) = rw (gone-604 n) (either b (either (ltb 0 n) ends refuse) (keeps acknowledged est))
+outcome-alike x (Stopping acknowledged est) n (Cst b) = rw (gone-closing n) (either b (either (ltb 0 n) ends refuse) (keeps acknowledged est))
 outcome-alike x (Stopping acknowledged est) n Cem = ends
 outcome-alike x Error n Cim = refuse
 outcome-alike x Error n (Cvm b) = refuse

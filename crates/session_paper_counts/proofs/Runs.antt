@@ -3,7 +3,7 @@ use mathlib.Core.Path.{_≡_, refl, ap, _∙_}
 use mathlib.Core.List.{List, [], _∷_}
 use Rattle.settings.specs.declared.Settings.{Settings}
 use Rattle.session.specs.declared.Session.{Session}
-use Rattle.session.specs.Message.{idleSession}
+use Rattle.session.specs.Session.{idleSession}
 use Rattle.session_paper_counts.specs.Folds.{folds}
 use Rattle.session_paper_counts.specs.Runs.{Step, Message, Tick, Number, Frames, seenAt, literalNext, codeNext, seenOf, lastOf}
 use Rattle.session_paper_counts.proofs.InStep.{start-in-step, tick-in-step, frames-in-step, message-in-step}

@@ -4,6 +4,7 @@ use Rattle.session_states.specs.declared.phases.Phase.{Phase}
 use Rattle.session_states.specs.declared.phases.Phase.the-variants.{Drive, Rest, Hold}
 use Rattle.session_states.specs.declared.states.State.{State}
 use Rattle.session_states.specs.declared.states.State.the-variants.{Idle, Offered, Unverified, Parameters, Ready, Charging, Stopping, Error}
+use Rattle.session_states.specs.Limits.{silenceLimit, closingLimit, driveLimit, mostDrives}
 use Rattle.session.specs.declared.Session.{Session}
 
 -- the ticks that the phase has had
@@ -24,13 +25,13 @@ inPhase f Idle = 0
 inPhase f Offered = 0
 inPhase f Unverified = 0
 inPhase f Parameters = 0
-inPhase f (Ready accepted most) = 0
+inPhase f (Ready accepted maximum) = 0
 inPhase f (Charging p) = f p
 inPhase f (Stopping acknowledged est) = 0
 inPhase f Error = 0
 
 pub record Small (s : Session) : Type 0 where
-  pub count-604 : s .count ≤ 604
-  pub silence-200 : s .silence ≤ 200
-  pub time-18000 : inPhase phaseTime (s .state) ≤ 18000
-  pub cycle-6 : inPhase phaseCycle (s .state) ≤ 6
+  pub count-small : s .count ≤ closingLimit
+  pub silence-small : s .silence ≤ silenceLimit
+  pub time-small : inPhase phaseTime (s .state) ≤ driveLimit
+  pub cycle-small : inPhase phaseCycle (s .state) ≤ mostDrives
