@@ -1,6 +1,6 @@
 -- The counter that is kept and the number of accepted ticks that grows for ever pass the same tests, after any number of ticks.
 -- Assumes nothing.
-use Prim.Native.Nat.{ℕ, zero, suc, _+_, _/_, _%_}
+use Prim.Native.Nat.{ℕ, zero, suc, _+_, _-_, _*_, _/_, _%_}
 use mathlib.Core.Path.{_≡_, refl}
 use mathlib.Core.Bool.{Bool, true, false, cond}
 use native.Mathlib.Omega.{arith}
@@ -10,7 +10,7 @@ use Rattle.settings.specs.declared.Versions.{Versions}
 use Rattle.readings.specs.declared.Readings.{Readings}
 use Rattle.cells.specs.declared.Cells.{Cells}
 use Rattle.broadcasts.specs.declared.beat.Beat.{Beat}
-use Rattle.broadcasts.specs.Beat.{dueAt, heartbeatAt, firstBeat, nextBeat}
+use Rattle.broadcasts.specs.Beat.{broadcastEach, dueAt, heartbeatAt, firstBeat, nextBeat}
 use Rattle.broadcasts.specs.Sendings.{broadcastAt}
 
 -- the counter after n accepted ticks
@@ -18,20 +18,27 @@ unfoldable pub beatAfter : ℕ → Beat
 beatAfter zero = firstBeat
 beatAfter (suc n) = nextBeat (beatAfter n)
 
-next-tick : (t n : ℕ) (b : Bool) → ltb t 59 ≡ b → t ≡ n % 60 → cond b (t + 1) 0 ≡ suc n % 60
-next-tick t n true e h = omega (arith, ltb-true t 59 e, h)
-next-tick t n false e h = omega (arith, ltb-false t 59 e, h)
+-- the last tick of two sendings, and how many ticks those are
+abbrev last : ℕ
+last = 2 * broadcastEach - 1
 
--- it is the number of ticks modulo 60
-pub tick-is : (n : ℕ) → beatAfter n .tick ≡ n % 60
+abbrev round : ℕ
+round = 2 * broadcastEach
+
+next-tick : (t n : ℕ) (b : Bool) → ltb t last ≡ b → t ≡ n % round → cond b (t + 1) 0 ≡ suc n % round
+next-tick t n true e h = omega (arith, ltb-true t last e, h)
+next-tick t n false e h = omega (arith, ltb-false t last e, h)
+
+-- it is the number of ticks modulo that of two sendings
+pub tick-is : (n : ℕ) → beatAfter n .tick ≡ n % round
 unfolding beatAfter
 tick-is zero = refl
-tick-is (suc n) = next-tick (beatAfter n .tick) n (ltb (beatAfter n .tick) 59) refl (tick-is n)
+tick-is (suc n) = next-tick (beatAfter n .tick) n (ltb (beatAfter n .tick) last) refl (tick-is n)
 
-due-folds : (n : ℕ) → n % 60 % 30 ≡ n % 30
+due-folds : (n : ℕ) → n % round % broadcastEach ≡ n % broadcastEach
 due-folds n = omega arith
 
-heartbeat-folds : (n : ℕ) → n % 60 / 30 % 2 ≡ n / 30 % 2
+heartbeat-folds : (n : ℕ) → n % round / broadcastEach % 2 ≡ n / broadcastEach % 2
 heartbeat-folds n = omega arith
 
 pub due-in-step : (n : ℕ) → dueAt (beatAfter n .tick) ≡ dueAt n

@@ -1,21 +1,24 @@
 -- When the broadcasts are sent (01, "Broadcasts and cell answers"). Accepted ticks are counted from 0 and for ever.
-use Prim.Native.Nat.{ℕ, _+_, _/_, _%_}
+use Prim.Native.Nat.{ℕ, _+_, _-_, _*_, _/_, _%_}
 use mathlib.Core.Bool.{Bool, cond}
 use lib.Dec.{eqb, ltb}
 use Rattle.broadcasts.specs.declared.beat.Beat.{Beat}
 
 -- "Accepted ticks 0, 30, 60 and on"
+abbrev pub broadcastEach : ℕ
+broadcastEach = 30
+
 abbrev pub dueAt : ℕ → Bool
-dueAt tick = eqb (tick % 30) 0
+dueAt tick = eqb (tick % broadcastEach) 0
 
 -- "80 hex on every second sending, first clear": tick 30 n is sending n, counted from 0, and the odd ones have it on
 abbrev pub heartbeatAt : ℕ → Bool
-heartbeatAt tick = eqb (tick / 30 % 2) 1
+heartbeatAt tick = eqb (tick / broadcastEach % 2) 1
 
--- What is kept of the tick number: 0 of a fresh controller, and after 59 it is 0 again. The law `in-step` (proofs/InStep.antt) says that it
--- passes the same tests as the number that grows.
+-- What is kept of the tick number: 0 of a fresh controller, and after 59, the last tick of two sendings, it is 0 again. The law
+-- `in-step` (proofs/InStep.antt) says that it passes the same tests as the number that grows.
 abbrev pub firstBeat : Beat
 firstBeat = record { tick = 0 }
 
 abbrev pub nextBeat : Beat → Beat
-nextBeat b = record { tick = cond (ltb (b .tick) 59) (b .tick + 1) 0 }
+nextBeat b = record { tick = cond (ltb (b .tick) (2 * broadcastEach - 1)) (b .tick + 1) 0 }

@@ -1,4 +1,5 @@
--- The five broadcasts (01, "Broadcasts and cell answers"). Every frame has 8 data bytes, zero after its fields; words are little endian.
+-- The five broadcasts (01, "Broadcasts and cell answers"). Every frame has 8 data bytes, zero after its fields; words are little
+-- endian.
 use Prim.Native.Nat.{ℕ, _+_, _%_}
 use mathlib.Core.Bool.{Bool, cond}
 use mathlib.Core.List.{List, [], _∷_, _++_}
@@ -11,8 +12,9 @@ use Rattle.settings.specs.declared.Versions.{Versions}
 use Rattle.readings.specs.declared.Readings.{Readings}
 use Rattle.readings.specs.Readings.{bitsOf}
 use Rattle.cells.specs.declared.Cells.{Cells}
-use Rattle.cells.specs.Sent.{countByte, indexByte}
-use Rattle.cells.specs.Summaries.{averageOf}
+use Rattle.cells.specs.Sent.{temperatureByte, countByte, indexByte}
+use Rattle.cells.specs.Figures.{cellCount, averageVoltage, highestVoltage, highestVoltageIndex, lowestVoltage, lowestVoltageIndex}
+use Rattle.cells.specs.Figures.{averageTemperature, highestTemperature, highestTemperatureIndex, lowestTemperature, lowestTemperatureIndex}
 use Rattle.broadcasts.specs.declared.Broadcasts.{Broadcasts}
 
 -- status one with 80 hex, or with it clear (status byte one is 0 to 127, so the rest of it is all of it)
@@ -27,24 +29,24 @@ broadcast row own bytes = frameOf row 0 own bytes
 unfoldable pub psOf : ℕ → Bool → Readings → Cells → Frame
 psOf own heartbeat r c =
     broadcast PS own
-    (statusByte heartbeat (r .one) ∷ r .two ∷ r .soc ∷ countByte (c .volts .count)
+    (statusByte heartbeat (r .one) ∷ r .two ∷ r .soc ∷ countByte (cellCount (c .volts))
     ∷ (wordBytes (bitsOf (r .current)) ++ wordBytes (r .pack .0)))
 
 -- CVS: average rounded down, highest index, highest, lowest index, lowest
 unfoldable pub cvsOf : ℕ → Cells → Frame
 cvsOf own c =
     broadcast CVS own
-    (wordBytes (averageOf (c .volts))
-    ++ (indexByte (c .volts .highest .index) ∷ wordBytes (c .volts .highest .value)
-    ++ (indexByte (c .volts .lowest .index) ∷ wordBytes (c .volts .lowest .value))))
+    (wordBytes (averageVoltage (c .volts) .0)
+    ++ (indexByte (highestVoltageIndex (c .volts)) ∷ wordBytes (highestVoltage (c .volts) .0)
+    ++ (indexByte (lowestVoltageIndex (c .volts)) ∷ wordBytes (lowestVoltage (c .volts) .0))))
 
 -- CTS: highest index and value, lowest index and value, average of the sent bytes rounded down
 unfoldable pub ctsOf : ℕ → Cells → Frame
 ctsOf own c =
     broadcast CTS own
-    (indexByte (c .heat .highest .index) ∷ c .heat .highest .value
-    ∷ indexByte (c .heat .lowest .index) ∷ c .heat .lowest .value
-    ∷ averageOf (c .heat) ∷ 0 ∷ 0 ∷ 0 ∷ [])
+    (indexByte (highestTemperatureIndex (c .heat)) ∷ temperatureByte (highestTemperature (c .heat) .0)
+    ∷ indexByte (lowestTemperatureIndex (c .heat)) ∷ temperatureByte (lowestTemperature (c .heat) .0)
+    ∷ temperatureByte (averageTemperature (c .heat) .0) ∷ 0 ∷ 0 ∷ 0 ∷ [])
 
 -- FWS: active and latched faults, active and latched warnings
 unfoldable pub fwsOf : ℕ → Readings → Frame

@@ -1,7 +1,13 @@
-// When the broadcasts are sent (01, "Broadcasts and cell answers"). The number of accepted ticks grows for ever; what is kept of it is the
-// number modulo 60, which passes the same tests and cannot overflow.
+// When the broadcasts are sent (01, "Broadcasts and cell answers"). The number of accepted ticks grows for ever; what is kept of
+// it is the number modulo 60, which passes the same tests and cannot overflow.
 ghost use mathlib.Core.Path.{_≡_};
 ghost use Rattle.broadcasts.specs.Beat.{dueAt, heartbeatAt, firstBeat, nextBeat};
+
+// The broadcasts are sent each so many accepted ticks.
+pub const EACH: u8 = 30;
+
+// The last tick of two sendings, one without the heartbeat and one with it.
+const LAST: u8 = 2 * EACH - 1;
 
 pub struct Beat {
     pub tick: u8,
@@ -19,14 +25,14 @@ impl Beat {
     pub fn due(self) -> bool
         ensures { λ r. ⌜ r ≡ dueAt (self .tick) ⌝ }
     {
-        self.tick % 30 == 0
+        self.tick % EACH == 0
     }
 
     // The sending of this tick has the heartbeat on.
     pub fn heartbeat(self) -> bool
         ensures { λ r. ⌜ r ≡ heartbeatAt (self .tick) ⌝ }
     {
-        self.tick / 30 % 2 == 1
+        self.tick / EACH % 2 == 1
     }
 
     // One accepted tick later.
@@ -34,7 +40,7 @@ impl Beat {
         ensures { λ r. ⌜ r ≡ nextBeat self ⌝ }
     {
         let tick = self.tick;
-        if tick < 59 {
+        if tick < LAST {
             Beat { tick: tick + 1 }
         } else {
             Beat { tick: 0 }

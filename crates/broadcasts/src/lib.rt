@@ -4,7 +4,6 @@ ghost use mathlib.Core.Path.{_≡_};
 ghost use Rattle.cells.specs.Bounds.{BoundedCells};
 ghost use Rattle.broadcasts.specs.Layouts.{statusByte, psOf, cvsOf, ctsOf, fwsOf, ecOf, broadcastsOf};
 use cells::Cells;
-use cells::figures;
 use cells::sent;
 use frames::Frame;
 use messages::table;
@@ -34,11 +33,10 @@ fn status_byte(heartbeat: bool, one: u8) -> u8
 }
 
 fn ps(own: u8, heartbeat: bool, readings: Readings, cells: Cells) -> Frame
-    requires { ⌜ BoundedCells cells ⌝ }
     ensures { λ r. ⌜ r ≡ psOf own heartbeat readings cells ⌝ }
 {
     let status = status_byte(heartbeat, readings.one);
-    let count = sent::count_byte(cells.volts.count);
+    let count = sent::count_byte(cells.volts.count());
     let current = readings.current_bits();
     let pack = readings.pack.0;
     let bytes = [
@@ -58,16 +56,17 @@ fn cvs(own: u8, cells: Cells) -> Frame
     requires { ⌜ BoundedCells cells ⌝ }
     ensures { λ r. ⌜ r ≡ cvsOf own cells ⌝ }
 {
-    let average = figures::average(cells.volts);
-    let highest = cells.volts.highest.value;
-    let lowest = cells.volts.lowest.value;
+    let volts = cells.volts;
+    let average = volts.average().0;
+    let highest = volts.highest().0;
+    let lowest = volts.lowest().0;
     let bytes = [
         (average % 256) as u8,
         (average / 256) as u8,
-        sent::index_byte(cells.volts.highest.index),
+        sent::index_byte(volts.highest_index()),
         (highest % 256) as u8,
         (highest / 256) as u8,
-        sent::index_byte(cells.volts.lowest.index),
+        sent::index_byte(volts.lowest_index()),
         (lowest % 256) as u8,
         (lowest / 256) as u8,
     ];
@@ -78,13 +77,13 @@ fn cts(own: u8, cells: Cells) -> Frame
     requires { ⌜ BoundedCells cells ⌝ }
     ensures { λ r. ⌜ r ≡ ctsOf own cells ⌝ }
 {
-    let average = figures::average(cells.heat);
+    let heat = cells.heat;
     let bytes = [
-        sent::index_byte(cells.heat.highest.index),
-        cells.heat.highest.value as u8,
-        sent::index_byte(cells.heat.lowest.index),
-        cells.heat.lowest.value as u8,
-        average as u8,
+        sent::index_byte(heat.highest_index()),
+        sent::temperature_byte(heat.highest()),
+        sent::index_byte(heat.lowest_index()),
+        sent::temperature_byte(heat.lowest()),
+        sent::temperature_byte(heat.average()),
         0,
         0,
         0,

@@ -9,12 +9,13 @@ use borrow.Author.Tests.{leb-true, eqb-true}
 use lib.Dec.{leb, eqb}
 use lib.IntN.{ℤ, pos}
 use lib.ListN.{length, getD, length-map}
-use Rattle.cells.specs.Tables.{mostCells, tablesFit, every, voltageOk, temperatureOk, cellsInRange, temperatureByte, temperatureBytes}
+use Rattle.cells.specs.Tables.{mostCells, mostVoltage, tablesFit, every, voltageOk, temperatureOk, cellsInRange}
+use Rattle.cells.specs.Sent.{sentOf, mostSent, sentTemperatures}
 use Rattle.cells.specs.Summaries.{sumOf, highestOf, lowestOf, summaryOf, cellsOf}
 use Rattle.cells.specs.Bounds.{Bounded, BoundedCells}
 use Rattle.buffers.proofs.Tests.{and-left, and-right}
 use Rattle.cells.proofs.Every.{every-at, at-map}
-use Rattle.cells.proofs.TemperatureByte.{sent}
+use Rattle.cells.proofs.SentTemperatures.{sent}
 use Rattle.cells.proofs.Extremes.{In, highest-in, lowest-in, highest-first, lowest-first}
 
 -- what 14 says where it is not given
@@ -69,26 +70,26 @@ bounded most (x ∷ xs) a b h =
       lowestIndex = omega (arith, lowest-first x xs .within);
     }
 
-voltages-at-most : (v : List ℕ) → every voltageOk v ≡ true → AtMost 1000 v
-voltages-at-most v h i l = leb-true (getD v i 0) 1000 (every-at voltageOk 0 v i h l)
+voltages-at-most : (v : List ℕ) → every voltageOk v ≡ true → AtMost mostVoltage v
+voltages-at-most v h i l = leb-true (getD v i 0) mostVoltage (every-at voltageOk 0 v i h l)
 
-temperatures-at-most : (t : List ℤ) → every temperatureOk t ≡ true → AtMost 255 (temperatureBytes t)
+temperatures-at-most : (t : List ℤ) → every temperatureOk t ≡ true → AtMost mostSent (sentTemperatures t)
 temperatures-at-most t h i l =
-    let k : i < length t = omega (arith, length-map t temperatureByte) in
-    rw (at-map temperatureByte (pos 0) t i k) (sent (getD t i (pos 0)) (every-at temperatureOk (pos 0) t i h k) .small)
+    let k : i < length t = omega (arith, length-map t sentOf) in
+    rw (at-map sentOf (pos 0) t i k) (sent (getD t i (pos 0)) (every-at temperatureOk (pos 0) t i h k) .small)
 
 -- the summaries of tables that are accepted
 pub cells-bounded : (v : List ℕ) (t : List ℤ) → tablesFit v t ≡ true → cellsInRange v t ≡ true → BoundedCells (cellsOf v t)
 cells-bounded v t f r =
-    let n = length-map t temperatureByte in
+    let n = length-map t sentOf in
     let g = fit v t f in
     record {
-      volts = bounded 1000 v (g .some) (g .most) (voltages-at-most v (voltages-good v t r));
+      volts = bounded mostVoltage v (g .some) (g .most) (voltages-at-most v (voltages-good v t r));
       heat =
-          bounded 255 (temperatureBytes t) (omega (arith, n, g .same, g .some)) (omega (arith, n, g .same, g .most))
+          bounded mostSent (sentTemperatures t) (omega (arith, n, g .same, g .some)) (omega (arith, n, g .same, g .most))
           (temperatures-at-most t (temperatures-good v t r));
     }
 
--- a number of at most 255, as every count and index is, stands in its byte whole
-pub one-byte : (n : ℕ) → n ≤ mostCells → n % 256 ≡ n
+-- a number of at most 255, as every count, index and temperature is that is sent, stands in its byte whole
+pub one-byte : (n : ℕ) → n ≤ 255 → n % 256 ≡ n
 one-byte n h = omega arith

@@ -1,7 +1,6 @@
-pub mod TemperatureByte
+pub mod SentTemperatures
 pub mod Every
 pub mod Extremes
 pub mod Walks
-pub mod Glance
 pub mod Bounds
 pub mod WorkedRows

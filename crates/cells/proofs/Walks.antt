@@ -1,19 +1,20 @@
--- Walks from the front of a table: one that keeps a value (the sum, the highest, the lowest so far), and one that looks for a value. Assumes
--- nothing.
+-- Walks from the front of a table: one that keeps a value (the sum, the highest, the lowest so far), one that looks for a value, and
+-- one that fills another table. Assumes nothing.
 use Prim.Native.Nat.{ℕ, suc, _+_, _≤_, _<_}
 use mathlib.Core.Path.{_≡_, refl, sym, _∙_}
 use mathlib.Core.List.{List, [], _∷_}
-use mathlib.Core.Bool.{Bool, true, false, cond, _||_, true≢false}
-use native.Mathlib.Nat.{not-suc-le-zero, add-zero, add-assoc}
+use mathlib.Core.Bool.{Bool, true, false, cond}
+use native.Mathlib.Nat.{not-suc-le-zero}
 use native.Mathlib.Numerals.{add-one}
 use native.Mathlib.Omega.{arith}
-use borrow.Author.Tests.{leb-true, leb-false, eqb-false, le-leb, lt-leb}
-use lib.Dec.{eqb, leb}
-use lib.ListN.{length, getD, drop, drop-of-length-le}
-use lib.Seq.{drop-cons}
+use borrow.Author.Tests.{leb-true, leb-false, le-leb, lt-leb}
+use lib.Dec.{leb}
+use lib.ListN.{length, getD, take, drop, set, drop-of-length-le}
+use lib.Seq.{drop-cons, take-suc, take-suc-set}
 use Rattle.cells.specs.Summaries.{sumOf, highestOf, lowestOf, indexFrom}
-use Rattle.cells.specs.Walk.{greaterOf, lesserOf, Passes}
-use Rattle.cells.proofs.Extremes.{none-below, index-here, index-after}
+use Rattle.units.specs.Units.{lesserOf}
+use Rattle.cells.specs.InnerWalk.{greaterOf}
+use Rattle.cells.proofs.Extremes.{index-here, index-after}
 
 -- a walk can make the figure f by keeping one value: two cells in front count as the one value that is kept of them, and a cell alone is its
 -- own figure
@@ -71,7 +72,7 @@ pub highest-begins : (xs : List ℕ) → Kept highestOf xs 0 0
 unfolding highestOf
 highest-begins xs = above-none (highestOf xs) (leb (highestOf xs) 0) refl
 
--- The lowest begins at the first cell, which is met once more; which of three is the least does not hang on the order either.
+-- The lowest begins at the first cell; which of three is the least does not hang on the order either.
 module _ (l x m : ℕ) where
   least : (p q : Bool) → leb l x ≡ p → leb x m ≡ q → lesserOf l (cond q x m) ≡ lesserOf (cond p l x) m
   least true true e f = rw (e, le-leb l m (omega (arith, leb-true l x e, leb-true x m f)))
@@ -88,36 +89,18 @@ pub lowest-keeps : Keeps lowestOf lesserOf
 unfolding lowestOf
 lowest-keeps = record { both = lowest-both; one = λ k. refl }
 
-no-lower : (x m : ℕ) (b : Bool) → leb x m ≡ b → m ≤ x → m ≡ cond b x m
-no-lower x m true e h = omega (arith, leb-true x m e)
-no-lower x m false e h = refl
-
-pub lowest-begins : (xs : List ℕ) → 1 ≤ length xs → Kept lowestOf xs 0 (getD xs 0 0)
-unfolding lowestOf
+pub lowest-begins : (xs : List ℕ) → 1 ≤ length xs → Kept lowestOf xs 1 (getD xs 0 0)
 lowest-begins [] h = absurd (not-suc-le-zero h)
-lowest-begins (x ∷ xs) h = no-lower x (lowestOf (x ∷ xs)) (leb x (lowestOf (x ∷ xs))) refl (none-below (x ∷ xs) 0 (omega arith))
+lowest-begins (x ∷ xs) h = refl
 
 module _ (value : ℕ) (xs : List ℕ) where
-  -- a search that may go on at i may pass the cell there too, if it does not have the value
-  pub passes-one : (from i : ℕ) → i < length xs → (getD xs i 0 ≡ value → ⊥) → Passes value xs from i → Passes value xs from (i + 1)
-  passes-one from i l n e = e ∙ rw (add-one, drop-cons xs i 0 l) (index-after (suc i) value (getD xs i 0) (drop (suc i) xs) n)
-
-  pub passes-none : (from : ℕ) → Passes value xs from (from + 0)
-  passes-none from = rw add-zero
-
-  -- i cells are looked at, and `one` tells whether one of them has the value: the same with one cell more
-  pub passes-unless :
-      (from i : ℕ) (one : Bool) →
-      from + i < length xs →
-      (one ≡ false → Passes value xs from (from + i)) →
-      (one || eqb (getD xs (from + i) 0) value) ≡ false → Passes value xs from (from + (i + 1))
-  passes-unless from i true l before e = absurd (true≢false e)
-  passes-unless from i false l before e =
-      rw (← add-assoc from i 1) (passes-one from (from + i) l (eqb-false (getD xs (from + i) 0) value e) (before refl))
-
-  -- the search has come to i, and none before has the value
+  -- the search has come to i, and none before has the value: the index that it will find is the table's
   abbrev pub Sought : ℕ → Type 0
-  Sought i = Passes value xs 0 i
+  Sought i = indexFrom 1 value xs ≡ indexFrom (suc i) value (drop i xs)
+
+  -- it may pass the cell at i, if that does not have the value
+  pub sought-again : (i : ℕ) → i < length xs → (getD xs i 0 ≡ value → ⊥) → Sought i → Sought (i + 1)
+  sought-again i l n e = e ∙ rw (add-one, drop-cons xs i 0 l) (index-after (suc i) value (getD xs i 0) (drop (suc i) xs) n)
 
   pub sought-here : (i : ℕ) → i < length xs → getD xs i 0 ≡ value → Sought i → i + 1 ≡ indexFrom 1 value xs
   sought-here i l h e = sym (e ∙ rw (drop-cons xs i 0 l, h, add-one) (index-here (suc i) value (drop (suc i) xs)))
@@ -125,3 +108,9 @@ module _ (value : ℕ) (xs : List ℕ) where
   pub sought-none : (i : ℕ) → length xs ≤ i → Sought i → 0 ≡ indexFrom 1 value xs
   unfolding indexFrom
   sought-none i l e = sym (e ∙ rw (drop-of-length-le xs l))
+
+-- a table filled from the front: what was put at i stands behind what stood before it
+pub filled-again :
+    (xs ys : List ℕ) (i : ℕ) → i < length ys → i < length xs → take i ys ≡ take i xs
+    → take (i + 1) (set ys i (getD xs i 0)) ≡ take (i + 1) xs
+filled-again xs ys i l h e = rw (add-one, take-suc-set ys i (getD xs i 0) l, take-suc xs i 0 h, e)

@@ -5,7 +5,7 @@ use mathlib.Core.List.{List, [], _∷_, _++_}
 use lib.IntN.{ℤ}
 use lib.ListN.{getD}
 use Rattle.buffers.specs.Words.{wordBytes}
-use Rattle.cells.specs.Tables.{temperatureBytes}
+use Rattle.cells.specs.Sent.{sentTemperatures, temperatureByte}
 
 abbrev pub voltagesPerGroup : ℕ
 voltagesPerGroup = 4
@@ -13,19 +13,19 @@ voltagesPerGroup = 4
 abbrev pub temperaturesPerGroup : ℕ
 temperaturesPerGroup = 8
 
--- place k of the group, both counted from 0, where a group has `per` places: the cell that stands there, and 0 past the table
-abbrev pub place : ℕ → List ℕ → ℕ → ℕ → ℕ
-place per xs group k = getD xs (group * per + k) 0
+-- place k of group g, both counted from 0, is place g * 4 + k or g * 8 + k of the table; past the table it is 0. A voltage is a word
+abbrev pub voltageAt : List ℕ → ℕ → ℕ → List ℕ
+voltageAt v group k = wordBytes (getD v (group * voltagesPerGroup + k) 0)
 
--- a voltage is a word
 abbrev pub voltageGroup : List ℕ → ℕ → List ℕ
-voltageGroup v group =
-    wordBytes (place voltagesPerGroup v group 3)
-    ++ (wordBytes (place voltagesPerGroup v group 2)
-    ++ (wordBytes (place voltagesPerGroup v group 1) ++ wordBytes (place voltagesPerGroup v group 0)))
+voltageGroup v group = voltageAt v group 3 ++ (voltageAt v group 2 ++ (voltageAt v group 1 ++ voltageAt v group 0))
 
--- a temperature is the byte F + 50
+-- and a temperature is a byte
+abbrev pub byteAt : List ℤ → ℕ → ℕ
+byteAt t i = temperatureByte (getD (sentTemperatures t) i 0)
+
 abbrev pub temperatureGroup : List ℤ → ℕ → List ℕ
 temperatureGroup t group =
-    let at = place temperaturesPerGroup (temperatureBytes t) group in
-    at 7 ∷ at 6 ∷ at 5 ∷ at 4 ∷ at 3 ∷ at 2 ∷ at 1 ∷ at 0 ∷ []
+    let first = group * temperaturesPerGroup in
+    byteAt t (first + 7) ∷ byteAt t (first + 6) ∷ byteAt t (first + 5) ∷ byteAt t (first + 4)
+    ∷ byteAt t (first + 3) ∷ byteAt t (first + 2) ∷ byteAt t (first + 1) ∷ byteAt t first ∷ []

@@ -1,7 +1,7 @@
 pub mod Tables
-pub mod Summaries
-pub mod Glance
-pub mod Groups
-pub mod Walk
-pub mod Bounds
 pub mod Sent
+pub mod Summaries
+pub mod Figures
+pub mod Groups
+pub mod Bounds
+pub mod InnerWalk

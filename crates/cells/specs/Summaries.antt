@@ -1,5 +1,6 @@
--- What is said of a table (01, "Broadcasts and cell answers"): its count, sum, highest and lowest, and its average rounded down. That the
--- highest is the highest, the lowest the lowest and each index the first is proved of these definitions (proofs/Extremes.antt).
+-- What is said of a table (01, "Broadcasts and cell answers"): its count, sum, highest and lowest, and its average rounded down.
+-- That the highest is the highest, the lowest the lowest and each index the first is proved of these definitions
+-- (proofs/Extremes.antt).
 use Prim.Native.Nat.{ℕ, suc, _+_, _/_}
 use mathlib.Core.Bool.{cond}
 use mathlib.Core.List.{List, [], _∷_}
@@ -9,7 +10,7 @@ use lib.ListN.{length}
 use Rattle.cells.specs.declared.Cell.{Cell}
 use Rattle.cells.specs.declared.Summary.{Summary}
 use Rattle.cells.specs.declared.Cells.{Cells}
-use Rattle.cells.specs.Tables.{temperatureBytes}
+use Rattle.cells.specs.Sent.{sentTemperatures}
 
 unfoldable pub sumOf : List ℕ → ℕ
 sumOf [] = 0
@@ -47,7 +48,7 @@ summaryOf xs =
 
 -- voltages as they are, temperatures as they are sent
 abbrev pub cellsOf : List ℕ → List ℤ → Cells
-cellsOf v t = record { volts = summaryOf v; heat = summaryOf (temperatureBytes t) }
+cellsOf v t = record { volts = record { 0 = summaryOf v }; heat = record { 0 = summaryOf (sentTemperatures t) } }
 
 -- the average, rounded down
 abbrev pub averageOf : Summary → ℕ

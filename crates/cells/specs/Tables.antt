@@ -1,9 +1,9 @@
 -- The cell tables of a tick (01, "Readings", and numbers 14 and 15). A table is the list of its cells, cell 1 first.
 use Prim.Native.Nat.{ℕ}
 use mathlib.Core.Bool.{Bool, true, _&&_}
-use mathlib.Core.List.{List, [], _∷_, map}
+use mathlib.Core.List.{List, [], _∷_}
 use lib.Dec.{eqb, leb}
-use lib.IntN.{ℤ, pos, negsuc, natAbs, _+ℤ_}
+use lib.IntN.{ℤ, pos, negsuc}
 use lib.ListN.{length}
 use lib.Signed.{leZ}
 
@@ -21,8 +21,11 @@ every test [] = true
 every test (x ∷ xs) = test x && every test xs
 
 -- voltage 0 to 1000 hundredths
+abbrev pub mostVoltage : ℕ
+mostVoltage = 1000
+
 abbrev pub voltageOk : ℕ → Bool
-voltageOk x = leb x 1000
+voltageOk x = leb x mostVoltage
 
 -- temperature -50 to 205 F (`negsuc n` is minus n + 1)
 abbrev pub temperatureOk : ℤ → Bool
@@ -31,10 +34,3 @@ temperatureOk t = leZ (negsuc 49) t && leZ t (pos 205)
 -- 15 is given where this fails: "a cell outside its range"
 abbrev pub cellsInRange : List ℕ → List ℤ → Bool
 cellsInRange v t = every voltageOk v && every temperatureOk t
-
--- a temperature is sent as F + 50: see the law `sent-is`, since one in range is -50 or more
-abbrev pub temperatureByte : ℤ → ℕ
-temperatureByte t = natAbs (t +ℤ pos 50)
-
-abbrev pub temperatureBytes : List ℤ → List ℕ
-temperatureBytes t = map temperatureByte t

@@ -1,78 +1,134 @@
-// What is said of the tables (01, "Broadcasts and cell answers"): of both as a whole, of none, of the voltages at a glance, and the average.
-// The walks over a table are in `voltages` and `temperatures`.
+// What is said of the tables (01, "Broadcasts and cell answers"): both as a whole, and each figure with its unit.
 ghost use mathlib.Core.Path.{_≡_};
 ghost use mathlib.Core.Bool.{true};
-ghost use mathlib.Core.List.{[]};
 ghost use Prim.Native.Nat.{_*_, _≤_, _<_};
-ghost use lib.ListN.{length};
-ghost use Rattle.cells.specs.Tables.{mostCells, tablesFit, cellsInRange};
-ghost use Rattle.cells.specs.Summaries.{cellsOf, averageOf};
-ghost use Rattle.cells.specs.Glance.{glanceOf};
-use crate::Cell;
+ghost use lib.ListN.{length, take};
+ghost use Rattle.cells.specs.Tables.{mostCells, tablesFit};
+ghost use Rattle.cells.specs.Sent.{sentTemperatures};
+ghost use Rattle.cells.specs.Summaries.{averageOf, summaryOf, cellsOf};
+ghost use Rattle.cells.specs.Figures.{cellCount, highestVoltage, highestVoltageIndex, lowestVoltage, lowestVoltageIndex, averageVoltage};
+ghost use Rattle.cells.specs.Figures.{highestTemperature, highestTemperatureIndex, lowestTemperature, lowestTemperatureIndex, averageTemperature};
 use crate::Cells;
 use crate::Summary;
-use crate::temperatures;
-use crate::voltages;
+use crate::Temperatures;
+use crate::Voltages;
+use crate::sent;
+use crate::tables;
+use crate::walk;
+use units::HundredthVolts;
+use units::SentDegrees;
 
-// Both tables, of which neither 14 nor 15 was said.
+// The temperatures as they are sent, from the front of a table that has room for the most cells.
+fn sent_table(t: &[i16]) -> [u16; tables::MOST]
+    requires { ⌜ length (now t) ≤ mostCells ⌝ }
+    ensures { λ r. ⌜ (length r ≡ mostCells) × (take (length (now (t .entry))) r ≡ sentTemperatures (now (t .entry))) ⌝ }
+{
+    let mut sent = [0; tables::MOST];
+    let mut i = 0;
+    while i < t.len() {
+        sent[i] = sent::sent_of(t[i]).0;
+        i += 1;
+    }
+    sent
+}
+
+fn temperatures(t: &[i16]) -> Summary
+    requires { ⌜ (1 ≤ length (now t)) × (length (now t) ≤ mostCells) ⌝ }
+    ensures { λ r. ⌜ r ≡ summaryOf (sentTemperatures (now (t .entry))) ⌝ }
+{
+    let n = t.len();
+    let sent = sent_table(t);
+    walk::summary(&sent[0..n])
+}
+
+// Both tables, of which 14 was not said.
 pub fn summarize(v: &[u16], t: &[i16]) -> Cells
-    requires { ⌜ (tablesFit (now v) (now t) ≡ true) × (cellsInRange (now v) (now t) ≡ true) ⌝ }
+    requires { ⌜ tablesFit (now v) (now t) ≡ true ⌝ }
     ensures { λ r. ⌜ r ≡ cellsOf (now (v .entry)) (now (t .entry)) ⌝ }
 {
     Cells {
-        volts: voltages::summary(v),
-        heat: temperatures::summary(t),
-    }
-}
-
-// What is said of no cells, for a caller whom nothing will ask of them.
-pub fn blank() -> Cells
-    ensures { λ r. ⌜ r ≡ cellsOf [] [] ⌝ }
-{
-    let none = Cell { value: 0, index: 0 };
-    let summary = Summary {
-        count: 0,
-        sum: 0,
-        highest: none,
-        lowest: none,
-    };
-    Cells {
-        volts: summary,
-        heat: summary,
-    }
-}
-
-// The number of cells and the highest voltage, for a caller whom nothing will ask of the rest.
-pub fn glance(v: &[u16]) -> Cells
-    requires { ⌜ length (now v) ≤ mostCells ⌝ }
-    ensures { λ r. ⌜ r ≡ glanceOf (now (v .entry)) ⌝ }
-{
-    let count = v.len() as u16;
-    let none = Cell { value: 0, index: 0 };
-    let highest = Cell {
-        value: voltages::highest(v),
-        index: 0,
-    };
-    Cells {
-        volts: Summary {
-            count,
-            sum: 0,
-            highest,
-            lowest: none,
-        },
-        heat: Summary {
-            count: 0,
-            sum: 0,
-            highest: none,
-            lowest: none,
-        },
+        volts: Voltages(walk::summary(v)),
+        heat: Temperatures(temperatures(t)),
     }
 }
 
 // The average, rounded down.
-pub fn average(s: Summary) -> u16
+fn average(s: Summary) -> u16
     requires { ⌜ (0 < s .count) × (s .sum ≤ 65535 * s .count) ⌝ }
     ensures { λ r. ⌜ r ≡ averageOf s ⌝ }
 {
     (s.sum / s.count as u32) as u16
+}
+
+impl Voltages {
+    // How many cells there are.
+    pub fn count(self) -> u16
+        ensures { λ r. ⌜ r ≡ cellCount self ⌝ }
+    {
+        self.0.count
+    }
+
+    pub fn highest(self) -> HundredthVolts
+        ensures { λ r. ⌜ r ≡ highestVoltage self ⌝ }
+    {
+        HundredthVolts(self.0.highest.value)
+    }
+
+    pub fn highest_index(self) -> u16
+        ensures { λ r. ⌜ r ≡ highestVoltageIndex self ⌝ }
+    {
+        self.0.highest.index
+    }
+
+    pub fn lowest(self) -> HundredthVolts
+        ensures { λ r. ⌜ r ≡ lowestVoltage self ⌝ }
+    {
+        HundredthVolts(self.0.lowest.value)
+    }
+
+    pub fn lowest_index(self) -> u16
+        ensures { λ r. ⌜ r ≡ lowestVoltageIndex self ⌝ }
+    {
+        self.0.lowest.index
+    }
+
+    pub fn average(self) -> HundredthVolts
+        requires { ⌜ (0 < self .0 .count) × (self .0 .sum ≤ 65535 * self .0 .count) ⌝ }
+        ensures { λ r. ⌜ r ≡ averageVoltage self ⌝ }
+    {
+        HundredthVolts(average(self.0))
+    }
+}
+
+impl Temperatures {
+    pub fn highest(self) -> SentDegrees
+        ensures { λ r. ⌜ r ≡ highestTemperature self ⌝ }
+    {
+        SentDegrees(self.0.highest.value)
+    }
+
+    pub fn highest_index(self) -> u16
+        ensures { λ r. ⌜ r ≡ highestTemperatureIndex self ⌝ }
+    {
+        self.0.highest.index
+    }
+
+    pub fn lowest(self) -> SentDegrees
+        ensures { λ r. ⌜ r ≡ lowestTemperature self ⌝ }
+    {
+        SentDegrees(self.0.lowest.value)
+    }
+
+    pub fn lowest_index(self) -> u16
+        ensures { λ r. ⌜ r ≡ lowestTemperatureIndex self ⌝ }
+    {
+        self.0.lowest.index
+    }
+
+    pub fn average(self) -> SentDegrees
+        requires { ⌜ (0 < self .0 .count) × (self .0 .sum ≤ 65535 * self .0 .count) ⌝ }
+        ensures { λ r. ⌜ r ≡ averageTemperature self ⌝ }
+    {
+        SentDegrees(average(self.0))
+    }
 }

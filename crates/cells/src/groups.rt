@@ -1,8 +1,7 @@
 // A group of cells as it is sent: four voltages or eight temperatures, the first cell last (01, "Broadcasts and cell answers").
 ghost use mathlib.Core.Path.{_≡_};
-ghost use mathlib.Core.Bool.{true};
-ghost use Rattle.cells.specs.Tables.{every, temperatureOk};
-ghost use Rattle.cells.specs.Groups.{voltageGroup, temperatureGroup};
+ghost use Rattle.cells.specs.Groups.{byteAt, voltageGroup, temperatureGroup};
+use crate::sent;
 use crate::tables;
 
 // The cells of a group.
@@ -30,19 +29,25 @@ pub fn voltage_group(v: &[u16], group: u8) -> [u8; 8]
     ]
 }
 
+// The byte that is sent of the temperature at a place, and 0 past the end.
+fn byte_at(t: &[i16], i: usize) -> u8
+    ensures { λ r. ⌜ r ≡ byteAt (now (t .entry)) i ⌝ }
+{
+    sent::temperature_byte(tables::temperature_at(t, i))
+}
+
 pub fn temperature_group(t: &[i16], group: u8) -> [u8; 8]
-    requires { ⌜ every temperatureOk (now t) ≡ true ⌝ }
     ensures { λ r. ⌜ r ≡ temperatureGroup (now (t .entry)) group ⌝ }
 {
     let first = group as usize * TEMPERATURES;
     [
-        tables::temperature_at(t, first + 7),
-        tables::temperature_at(t, first + 6),
-        tables::temperature_at(t, first + 5),
-        tables::temperature_at(t, first + 4),
-        tables::temperature_at(t, first + 3),
-        tables::temperature_at(t, first + 2),
-        tables::temperature_at(t, first + 1),
-        tables::temperature_at(t, first),
+        byte_at(t, first + 7),
+        byte_at(t, first + 6),
+        byte_at(t, first + 5),
+        byte_at(t, first + 4),
+        byte_at(t, first + 3),
+        byte_at(t, first + 2),
+        byte_at(t, first + 1),
+        byte_at(t, first),
     ]
 }

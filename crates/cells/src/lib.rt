@@ -1,12 +1,13 @@
-// The cell tables that a tick lends: what is said of a table as a whole (its count, sum, highest and lowest), whether its cells are in
-// range, and its groups as they are sent (01, "Readings", "Broadcasts and cell answers"). This crate may not know sessions,
+// The cell tables that a tick lends: whether they may be taken, what is said of a table as a whole (its count, sum, highest and
+// lowest), and its groups as they are sent (01, "Readings", "Broadcasts and cell answers"). This crate may not know sessions,
 // queries or when anything is sent.
+//
+// A lent table is a slice of plain numbers, `&[u16]` or `&[i16]`: a slice of a unit's type would be a slice of structs, which the
+// prover does not cover. The unit is put on where figures are kept, in `Voltages` and `Temperatures`.
 pub mod figures;
 pub mod groups;
 pub mod sent;
 pub mod tables;
-mod temperatures;
-mod voltages;
 mod walk;
 
 // A cell's value and its index from 1.
@@ -15,7 +16,7 @@ pub struct Cell {
     pub index: u16,
 }
 
-// What is said of one table.
+// What is said of one table, of either kind.
 pub struct Summary {
     pub count: u16,
     pub sum: u32,
@@ -23,8 +24,14 @@ pub struct Summary {
     pub lowest: Cell,
 }
 
-// Of both tables: voltages in hundredths, temperatures as they are sent (F + 50).
+// Of the voltages: a value is hundredths of a volt.
+pub struct Voltages(pub Summary);
+
+// Of the temperatures: a value is a temperature as it is sent, F + 50.
+pub struct Temperatures(pub Summary);
+
+// Of both tables.
 pub struct Cells {
-    pub volts: Summary,
-    pub heat: Summary,
+    pub volts: Voltages,
+    pub heat: Temperatures,
 }

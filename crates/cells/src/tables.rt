@@ -1,13 +1,22 @@
-// Whether the two tables may be taken: their lengths (01, number 14), then the range of each cell (number 15), and the byte that is
-// sent of a temperature.
+// Whether the two tables may be taken: their lengths (01, number 14), then the range of each cell (number 15); and the cell at a
+// place.
 ghost use mathlib.Core.Path.{_≡_};
-ghost use mathlib.Core.Bool.{true};
-ghost use Prim.Native.Nat.{_<_};
-ghost use lib.ListN.{length, getD};
-ghost use Rattle.cells.specs.Tables.{tablesFit, every, voltageOk, temperatureOk, cellsInRange, temperatureByte, temperatureBytes};
+ghost use lib.ListN.{getD};
+ghost use Rattle.cells.specs.Tables.{tablesFit, every, voltageOk, temperatureOk, cellsInRange};
+ghost use Rattle.cells.specs.Sent.{sentTemperatures};
+use crate::sent;
+use units::SentDegrees;
 
 // The most cells that a table may hold.
 pub const MOST: usize = 255;
+
+// The highest voltage of a cell that is in range.
+pub const MOST_VOLTAGE: u16 = 1000;
+
+// The lowest and the highest temperature of a cell that is in range.
+pub const LEAST_TEMPERATURE: i16 = -50;
+
+pub const MOST_TEMPERATURE: i16 = 205;
 
 // The tables have one length, from 1 to the most.
 pub fn tables_fit(v: &[u16], t: &[i16]) -> bool
@@ -23,7 +32,7 @@ fn voltages_ok(v: &[u16]) -> bool
     let mut ok = true;
     let mut i = 0;
     while i < v.len() {
-        ok = ok & (v[i] <= 1000);
+        ok = ok & (v[i] <= MOST_VOLTAGE);
         i += 1;
     }
     ok
@@ -32,7 +41,7 @@ fn voltages_ok(v: &[u16]) -> bool
 fn temperature_ok(t: i16) -> bool
     ensures { λ r. ⌜ r ≡ temperatureOk t ⌝ }
 {
-    (-50 <= t) & (t <= 205)
+    (LEAST_TEMPERATURE <= t) & (t <= MOST_TEMPERATURE)
 }
 
 fn temperatures_ok(t: &[i16]) -> bool
@@ -56,30 +65,14 @@ pub fn in_range(v: &[u16], t: &[i16]) -> bool
     voltages & temperatures
 }
 
-fn byte_of(t: i16) -> u8
-    requires { ⌜ temperatureOk t ≡ true ⌝ }
-    ensures { λ r. ⌜ r ≡ temperatureByte t ⌝ }
-{
-    (t + 50) as u8
-}
-
-// The byte that is sent of the temperature at a place within the table.
-pub fn temperature_within(t: &[i16], i: usize) -> u8
-    requires { ⌜ (i < length (now t)) × (every temperatureOk (now t) ≡ true) ⌝ }
-    ensures { λ r. ⌜ r ≡ getD (temperatureBytes (now (t .entry))) i 0 ⌝ }
-{
-    byte_of(t[i])
-}
-
-// The same, and 0 past the end.
-pub fn temperature_at(t: &[i16], i: usize) -> u8
-    requires { ⌜ every temperatureOk (now t) ≡ true ⌝ }
-    ensures { λ r. ⌜ r ≡ getD (temperatureBytes (now (t .entry))) i 0 ⌝ }
+// The temperature at a place as it is sent, and 0 past the end.
+pub fn temperature_at(t: &[i16], i: usize) -> SentDegrees
+    ensures { λ r. ⌜ r .0 ≡ getD (sentTemperatures (now (t .entry))) i 0 ⌝ }
 {
     if i < t.len() {
-        temperature_within(t, i)
+        sent::sent_of(t[i])
     } else {
-        0
+        SentDegrees(0)
     }
 }
 

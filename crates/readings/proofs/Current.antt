@@ -6,6 +6,7 @@ use native.Mathlib.Omega.{arith}
 use borrow.Author.Tests.{leb-true, le-ltb, lt-ltb}
 use lib.Dec.{leb, ltb}
 use lib.IntN.{ℤ, pos, negsuc, natAbs, _-ℤ_}
+use Rattle.units.specs.declared.TenthAmps.{TenthAmps}
 use Rattle.units.specs.declared.Signed.the-variants.{NotBelow, Below}
 use Rattle.units.specs.Signed.{signedOf}
 use Rattle.units.proofs.Sign.{is-not-below, is-below}
@@ -25,7 +26,7 @@ module _ (c : ℤ) (n : ℕ) where
     unfolding currentOk
     ok-not-below = rw (is-not-below c n e)
 
-    pub above-not-below : (m : ℕ) → ltb m n ≡ aboveOf c m
+    pub above-not-below : (m : TenthAmps) → ltb (m .0) n ≡ aboveOf c m
     unfolding aboveOf
     above-not-below m = rw (is-not-below c n e)
 
@@ -46,7 +47,7 @@ module _ (c : ℤ) (n : ℕ) where
     unfolding currentOk
     ok-below = rw (is-below c n e) (sym (and-true (leb n 19999)))
 
-    pub above-below : (m : ℕ) → false ≡ aboveOf c m
+    pub above-below : (m : TenthAmps) → false ≡ aboveOf c m
     unfolding aboveOf
     above-below m = rw (is-below c n e)
 

@@ -5,6 +5,7 @@ use lib.Bits.{bitAnd}
 use lib.Dec.{eqb, leb}
 use lib.IntN.{ℤ, pos, negsuc, natAbs, _-ℤ_}
 use lib.Signed.{leZ, ltZ}
+use Rattle.units.specs.declared.TenthAmps.{TenthAmps}
 use Rattle.readings.specs.declared.Readings.{Readings}
 
 -- current -20000 to 4000 tenths (`negsuc n` is minus n + 1)
@@ -21,8 +22,8 @@ wantedOf r =
     eqb (bitAnd (r .two) 0x80) 0x80 && (eqb (bitAnd (r .two) 0x20) 0 && eqb (bitAnd (r .faults .active) 0xfe) 0)
 
 -- a current, positive into the pack, is above a maximum in tenths
-unfoldable pub aboveOf : ℤ → ℕ → Bool
-aboveOf c maximum = ltZ (pos maximum) c
+unfoldable pub aboveOf : ℤ → TenthAmps → Bool
+aboveOf c maximum = ltZ (pos (maximum .0)) c
 
 -- a current in tenths is sent as 4000 minus it: see the law `raw-is`, since a current in range is at most 4000
 unfoldable pub rawOf : ℤ → ℕ

@@ -2,7 +2,9 @@
 // compared and sent. This crate may not know cells, frames or sessions.
 ghost use mathlib.Core.Path.{_≡_};
 ghost use Rattle.readings.specs.Readings.{inRange, wantedOf, aboveOf, rawOf, bitsOf, currentOk};
+use units::RawAmps;
 use units::Signed;
+use units::TenthAmps;
 use units::TenthVolts;
 
 // Two bytes of bits: those that stand now, and those that have been latched.
@@ -43,11 +45,11 @@ fn raw(c: i16) -> u16
 }
 
 // A current above a maximum.
-fn above(c: i16, maximum: u16) -> bool
+fn above(c: i16, maximum: TenthAmps) -> bool
     ensures { λ r. ⌜ r ≡ aboveOf c maximum ⌝ }
 {
     match units::sign_of(c) {
-        Signed::NotBelow(n) => maximum < n,
+        Signed::NotBelow(n) => maximum.under(TenthAmps(n)),
         Signed::Below(_) => false,
     }
 }
@@ -79,18 +81,20 @@ impl Readings {
         (two & 0x80 == 0x80) & ((two & 0x20 == 0) & (active & 0xfe == 0))
     }
 
-    pub fn current_above(self, maximum: u16) -> bool
+    pub fn current_above(self, maximum: TenthAmps) -> bool
         ensures { λ r. ⌜ r ≡ aboveOf (self .current) maximum ⌝ }
     {
         above(self.current, maximum)
     }
 
-    pub fn raw_current(self) -> u16
-        ensures { λ r. ⌜ r ≡ rawOf (self .current) ⌝ }
+    // The current as the word of a frame.
+    pub fn raw_current(self) -> RawAmps
+        ensures { λ r. ⌜ r .0 ≡ rawOf (self .current) ⌝ }
     {
-        raw(self.current)
+        RawAmps(raw(self.current))
     }
 
+    // The current's bits, as PS has them.
     pub fn current_bits(self) -> u16
         ensures { λ r. ⌜ r ≡ bitsOf (self .current) ⌝ }
     {

@@ -45,6 +45,10 @@ pub below-small : (c : ℤ) → SFits w16 c → (n : ℕ) → Below n ≡ signed
 below-small (pos m) f n e = let z : _≡_ {A = ℕ} 0 1 = cc in absurd (omega arith)
 below-small (negsuc m) f n e = let k : n ≡ m = cc in omega (arith, f .sfits)
 
+pub not-below-small : (c : ℤ) → SFits w16 c → (n : ℕ) → NotBelow n ≡ signedOf c → n ≤ 32767
+not-below-small (pos m) f n e = let k : n ≡ m = cc in omega (arith, f .sfits)
+not-below-small (negsuc m) f n e = let z : _≡_ {A = ℕ} 0 1 = cc in absurd (omega arith)
+
 -- a number is what its sign and size say
 pub is-not-below : (c : ℤ) (n : ℕ) → NotBelow n ≡ signedOf c → c ≡ pos n
 is-not-below (pos m) n e = cc

@@ -1,12 +1,15 @@
 -- `broadcasts::ps` meets its contract. Assumes nothing.
-use mathlib.Core.Path.{_∙_}
 use Rattle.broadcasts.specs.Layouts.{psOf}
+use mathlib.Core.Path.{_∙_}
 use borrow.Author.Needs.{needs}
 use Rattle.broadcasts.proofs.ps.Statement.{statement}
 use Rattle.broadcasts.proofs.ps.Tie as tie
 
 status-byte-requires : tie.Need-status-byte-requires
 status-byte-requires c κs = search needs
+
+count-requires : tie.Need-count-requires
+count-requires c κs = search needs
 
 count-byte-requires : tie.Need-count-byte-requires
 count-byte-requires c κs = search needs
@@ -34,15 +37,15 @@ new-requires c κs = search needs
 
 returns : tie.Need-returns
 unfolding psOf
-returns c =
-    let b = c .before .before in
-    c .new .ensures ∙ rw (c .before .row-at .ensures, b .before .before .status-byte .ensures, b .before .count-byte .ensures, b .current-bits .ensures)
+returns c = c .new .ensures
+    ∙ rw (c .before .row-at .ensures, c .before .before .current-bits .ensures, c .before .before .before .count-byte .ensures, c .before .before .before .before .count .ensures, c .before .before .before .before .before .status-byte .ensures)
 
 pub ps-spec : {M : Type 1} → statement M
 ps-spec =
     tie.close
     (tie.spec
     status-byte-requires
+    count-requires
     count-byte-requires
     current-bits-requires
     cast-t11

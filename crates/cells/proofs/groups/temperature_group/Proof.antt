@@ -1,5 +1,4 @@
 -- `cells::groups::temperature_group` meets its contract. Assumes nothing.
-use native.Mathlib.Nat.{add-zero}
 use borrow.Author.Needs.{needs}
 use Rattle.cells.proofs.groups.temperature_group.Statement.{statement}
 use Rattle.cells.proofs.groups.temperature_group.Tie as tie
@@ -7,75 +6,72 @@ use Rattle.cells.proofs.groups.temperature_group.Tie as tie
 mul-first : tie.Need-mul-first
 mul-first c = search needs
 
-add-temperature-at : tie.Need-add-temperature-at
-add-temperature-at c = search needs
+add-byte-at : tie.Need-add-byte-at
+add-byte-at c = search needs
 
-temperature-at-requires : tie.Need-temperature-at-requires
-temperature-at-requires c κs = search needs
+byte-at-requires : tie.Need-byte-at-requires
+byte-at-requires c κs = search needs
 
-add-temperature-at-2 : tie.Need-add-temperature-at-2
-add-temperature-at-2 c = search needs
+add-byte-at-2 : tie.Need-add-byte-at-2
+add-byte-at-2 c = search needs
 
-temperature-at-requires-2 : tie.Need-temperature-at-requires-2
-temperature-at-requires-2 c κs = search needs
+byte-at-requires-2 : tie.Need-byte-at-requires-2
+byte-at-requires-2 c κs = search needs
 
-add-temperature-at-3 : tie.Need-add-temperature-at-3
-add-temperature-at-3 c = search needs
+add-byte-at-3 : tie.Need-add-byte-at-3
+add-byte-at-3 c = search needs
 
-temperature-at-requires-3 : tie.Need-temperature-at-requires-3
-temperature-at-requires-3 c κs = search needs
+byte-at-requires-3 : tie.Need-byte-at-requires-3
+byte-at-requires-3 c κs = search needs
 
-add-temperature-at-4 : tie.Need-add-temperature-at-4
-add-temperature-at-4 c = search needs
+add-byte-at-4 : tie.Need-add-byte-at-4
+add-byte-at-4 c = search needs
 
-temperature-at-requires-4 : tie.Need-temperature-at-requires-4
-temperature-at-requires-4 c κs = search needs
+byte-at-requires-4 : tie.Need-byte-at-requires-4
+byte-at-requires-4 c κs = search needs
 
-add-temperature-at-5 : tie.Need-add-temperature-at-5
-add-temperature-at-5 c = search needs
+add-byte-at-5 : tie.Need-add-byte-at-5
+add-byte-at-5 c = search needs
 
-temperature-at-requires-5 : tie.Need-temperature-at-requires-5
-temperature-at-requires-5 c κs = search needs
+byte-at-requires-5 : tie.Need-byte-at-requires-5
+byte-at-requires-5 c κs = search needs
 
-add-temperature-at-6 : tie.Need-add-temperature-at-6
-add-temperature-at-6 c = search needs
+add-byte-at-6 : tie.Need-add-byte-at-6
+add-byte-at-6 c = search needs
 
-temperature-at-requires-6 : tie.Need-temperature-at-requires-6
-temperature-at-requires-6 c κs = search needs
+byte-at-requires-6 : tie.Need-byte-at-requires-6
+byte-at-requires-6 c κs = search needs
 
-add-temperature-at-7 : tie.Need-add-temperature-at-7
-add-temperature-at-7 c = search needs
+add-byte-at-7 : tie.Need-add-byte-at-7
+add-byte-at-7 c = search needs
 
-temperature-at-requires-7 : tie.Need-temperature-at-requires-7
-temperature-at-requires-7 c κs = search needs
+byte-at-requires-7 : tie.Need-byte-at-requires-7
+byte-at-requires-7 c κs = search needs
 
-temperature-at-requires-8 : tie.Need-temperature-at-requires-8
-temperature-at-requires-8 c κs = search needs
+byte-at-requires-8 : tie.Need-byte-at-requires-8
+byte-at-requires-8 c κs = search needs
 
 returns : tie.Need-returns
-returns c =
-    let e = c .before in
-    let d = e .before .before in
-    rw (d .before .before .before .before .temperature-at .ensures, d .before .before .before .temperature-at2 .ensures, d .before .before .temperature-at3 .ensures, d .before .temperature-at4 .ensures, d .temperature-at5 .ensures, e .before .temperature-at6 .ensures, e .temperature-at7 .ensures, c .temperature-at8 .ensures, add-zero)
+returns c = rw (c .before .before .before .before .before .before .before .byte-at .ensures, c .before .before .before .before .before .before .byte-at2 .ensures, c .before .before .before .before .before .byte-at3 .ensures, c .before .before .before .before .byte-at4 .ensures, c .before .before .before .byte-at5 .ensures, c .before .before .byte-at6 .ensures, c .before .byte-at7 .ensures, c .byte-at8 .ensures)
 
 pub temperature-group-spec : {M : Type 1} → statement M
 temperature-group-spec =
     tie.close
     (tie.spec
     mul-first
-    add-temperature-at
-    temperature-at-requires
-    add-temperature-at-2
-    temperature-at-requires-2
-    add-temperature-at-3
-    temperature-at-requires-3
-    add-temperature-at-4
-    temperature-at-requires-4
-    add-temperature-at-5
-    temperature-at-requires-5
-    add-temperature-at-6
-    temperature-at-requires-6
-    add-temperature-at-7
-    temperature-at-requires-7
-    temperature-at-requires-8
+    add-byte-at
+    byte-at-requires
+    add-byte-at-2
+    byte-at-requires-2
+    add-byte-at-3
+    byte-at-requires-3
+    add-byte-at-4
+    byte-at-requires-4
+    add-byte-at-5
+    byte-at-requires-5
+    add-byte-at-6
+    byte-at-requires-6
+    add-byte-at-7
+    byte-at-requires-7
+    byte-at-requires-8
     returns)

@@ -1,0 +1,40 @@
+-- A temperature as it is sent: by its sign, and of one in range. Assumes nothing.
+use Prim.Native.Nat.{ℕ, suc, _+_, _-_, _≤_, _<_}
+use mathlib.Core.Path.{_≡_, refl, sym}
+use mathlib.Core.Bool.{true}
+use native.Mathlib.Omega.{arith}
+use borrow.Author.Tests.{leb-true, le-ltb, lt-ltb}
+use lib.Dec.{leb}
+use lib.IntN.{ℤ, pos, negsuc, _+ℤ_}
+use Rattle.units.specs.declared.Signed.the-variants.{NotBelow, Below}
+use Rattle.units.specs.Signed.{signedOf}
+use Rattle.units.proofs.Sign.{is-not-below, is-below}
+use Rattle.cells.specs.Tables.{temperatureOk}
+use Rattle.cells.specs.Sent.{sentOf, mostSent}
+use Rattle.buffers.proofs.Tests.{and-left}
+
+-- a number that is not below 0, one that is below it by at most 50, and one that is below it by more
+module _ (t : ℤ) (n : ℕ) where
+  pub sent-not-below : NotBelow n ≡ signedOf t → n + 50 ≡ sentOf t
+  sent-not-below e = rw (is-not-below t n e)
+
+  pub sent-below : Below n ≡ signedOf t → n ≤ 49 → 49 - n ≡ sentOf t
+  sent-below e h = rw (is-below t n e, le-ltb 50 (suc n) (omega arith)) (omega arith)
+
+  pub sent-far-below : Below n ≡ signedOf t → 49 < n → n - 49 ≡ sentOf t
+  sent-far-below e h = rw (is-below t n e, lt-ltb 50 (suc n) (omega arith)) (omega arith)
+
+-- a temperature in range is sent as F + 50, which is at most 255
+pub record Sent (t : ℤ) : Type 0 where
+  pub small : sentOf t ≤ mostSent
+  pub shifted : t +ℤ pos 50 ≡ pos (sentOf t)
+
+pub sent : (t : ℤ) → temperatureOk t ≡ true → Sent t
+sent (pos n) h = let k = leb-true n 205 h in record { small = omega arith; shifted = refl }
+sent (negsuc n) h =
+    let k = leb-true n 49 (and-left (leb n 49) true h) in
+    let l = le-ltb 50 (suc n) (omega arith) in
+    record { small = rw l (omega arith); shifted = rw l }
+
+pub sent-is : (t : ℤ) → temperatureOk t ≡ true → pos (sentOf t) ≡ t +ℤ pos 50
+sent-is t h = sym (sent t h .shifted)
