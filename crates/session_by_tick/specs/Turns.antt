@@ -6,6 +6,7 @@ use Rattle.settings.specs.declared.Settings.{Settings}
 use Rattle.readings.specs.declared.Readings.{Readings}
 use Rattle.readings.specs.Readings.{wantedOf, aboveOf}
 use Rattle.cells.specs.declared.Cells.{Cells}
+use Rattle.cells.specs.Figures.{highestVoltage}
 use Rattle.session_states.specs.declared.phases.Phase.{Phase}
 use Rattle.session_states.specs.declared.phases.Cause.{Cause}
 use Rattle.session_states.specs.declared.phases.Cause.the-variants.{PackVoltage, HoldCell, Other}
@@ -22,7 +23,7 @@ use Rattle.session_by_tick.specs.declared.Turn.the-variants.{On, Enter, 
 
 -- highest cell at or above maximum
 unfoldable pub cellFull : Settings → Cells → Bool
-cellFull x c = leb (x .limits .cell .0) (c .volts .highest .value)
+cellFull x c = leb (x .limits .cell .0) (highestVoltage (c .volts) .0)
 
 -- pack voltage at or above maximum
 unfoldable pub packFull : Settings → Readings → Bool
@@ -30,7 +31,7 @@ packFull x r = leb (x .limits .pack .0) (r .pack .0)
 
 -- current above maximum
 unfoldable pub currentAbove : Settings → Readings → Bool
-currentAbove x r = aboveOf (r .current) (x .limits .current .0)
+currentAbove x r = aboveOf (r .current) (x .limits .current)
 
 -- the cause is neither pack voltage nor a cell in Hold
 unfoldable pub isOther : Cause → Bool

@@ -6,15 +6,14 @@ ghost use mathlib.Core.Bool.{cond};
 ghost use Prim.Native.Nat.{_≤_};
 ghost use Rattle.session_by_tick.specs.Turns.{cellFull, packFull, currentAbove, isOther, estFirst, estSecond, stopOf, estOf, waitingOf, phaseTurn, stopsOf, chargingOf, stoppingOf, errorOf, turnOf};
 use cells::Cells;
+use readings::Readings;
 use session_states::limits;
 use session_states::phases::Cause;
 use session_states::phases::Phase;
 use session_states::phases::PhaseAfter;
-use readings::Readings;
 use session_states::states::Est;
 use session_states::states::State;
 use settings::Settings;
-use units::HundredthVolts;
 
 pub enum Turn {
     // The state goes on, its count with it.
@@ -31,7 +30,7 @@ pub enum Turn {
 fn cell_full(x: Settings, c: Cells) -> bool
     ensures { λ r. ⌜ r ≡ cellFull x c ⌝ }
 {
-    HundredthVolts(c.volts.highest.value).at_least(x.limits.cell)
+    c.volts.highest().at_least(x.limits.cell)
 }
 
 // The pack voltage is at or above the maximum.
@@ -45,7 +44,7 @@ fn pack_full(x: Settings, r: Readings) -> bool
 fn current_above(x: Settings, r: Readings) -> bool
     ensures { λ b. ⌜ b ≡ currentAbove x r ⌝ }
 {
-    r.current_above(x.limits.current.0)
+    r.current_above(x.limits.current)
 }
 
 fn is_other(cause: Cause) -> bool

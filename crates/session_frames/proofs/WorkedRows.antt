@@ -5,15 +5,16 @@ use Rattle.units.specs.Units.{rawAmps}
 use Rattle.messages.specs.Identifier.{numberOf}
 use Rattle.settings.specs.declared.Settings.{Settings}
 use Rattle.cells.specs.declared.Cells.{Cells}
+use Rattle.cells.specs.Figures.{cellCount}
 use Rattle.session_frames.specs.Layouts.{holdVoltage, eimOf, eemOf}
 
 -- maximum pack voltage 65535: 48 cells hold at 1704; 3 at 106
 module _ (x : Settings) (c : Cells) (pack : x .limits .pack .0 ≡ 65535) where
-  pub forty-eight-hold : c .volts .count ≡ 48 → holdVoltage x c .0 ≡ 1704
+  pub forty-eight-hold : cellCount (c .volts) ≡ 48 → holdVoltage x c .0 ≡ 1704
   unfolding holdVoltage
   forty-eight-hold n = rw (pack, n)
 
-  pub three-hold : c .volts .count ≡ 3 → holdVoltage x c .0 ≡ 106
+  pub three-hold : cellCount (c .volts) ≡ 3 → holdVoltage x c .0 ≡ 106
   unfolding holdVoltage
   three-hold n = rw (pack, n)
 

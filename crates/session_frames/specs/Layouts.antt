@@ -1,6 +1,6 @@
 -- The ten frames to the station (01, "Session by tick", "Layouts"), each from us to the station with its row of the table. Words are little
 -- endian; every frame has 8 data bytes, zero after its fields.
-use Prim.Native.Nat.{ℕ, _%_}
+use Prim.Native.Nat.{ℕ}
 use mathlib.Core.Bool.{Bool, cond}
 use mathlib.Core.List.{[], _∷_, _++_}
 use Rattle.units.specs.declared.TenthVolts.{TenthVolts}
@@ -14,17 +14,15 @@ use Rattle.settings.specs.declared.Settings.{Settings}
 use Rattle.readings.specs.declared.Readings.{Readings}
 use Rattle.readings.specs.Readings.{rawOf}
 use Rattle.cells.specs.declared.Cells.{Cells}
-use Rattle.cells.specs.Sent.{indexByte}
+use Rattle.cells.specs.Sent.{temperatureByte, indexByte}
+use Rattle.cells.specs.Figures.{cellCount, highestVoltage, highestVoltageIndex, lowestVoltage}
+use Rattle.cells.specs.Figures.{highestTemperature, highestTemperatureIndex, lowestTemperature, lowestTemperatureIndex}
 use Rattle.session_states.specs.declared.phases.Phase.{Phase}
 use Rattle.session_states.specs.declared.phases.Phase.the-variants.{Drive, Rest, Hold}
 
 -- AA or 00
 abbrev pub markOf : Bool → ℕ
 markOf on = cond on 0xaa 0x00
-
--- a temperature as it is sent, in its byte: it is below 256
-abbrev pub byteOf : ℕ → ℕ
-byteOf n = n % 256
 
 -- EIM each 5 (maximum pack voltage, AA); one EIM 00
 unfoldable pub eimOf : Settings → ℕ → Bool → Frame
@@ -53,7 +51,7 @@ holdCell = record { 0 = 355 }
 
 -- Hold voltage is the smaller of 355 x cells / 10, rounded down, and maximum pack voltage
 unfoldable pub holdVoltage : Settings → Cells → TenthVolts
-holdVoltage x c = inSeries holdCell (c .volts .count) (x .limits .pack)
+holdVoltage x c = inSeries holdCell (cellCount (c .volts)) (x .limits .pack)
 
 -- ECR voltage, raw current, mode
 unfoldable pub ecrFrame : Settings → ℕ → ℕ → ℕ → ℕ → Frame
@@ -70,17 +68,17 @@ ecrOf x station c (Hold time) = ecrFrame x station (holdVoltage x c .0) 4000 0x0
 unfoldable pub ecsOf : Settings → ℕ → Readings → Cells → Frame
 ecsOf x station r c =
     frameOf ECS station (x .own)
-    (wordBytes (r .pack .0) ++ (wordBytes (rawOf (r .current)) ++ (wordBytes (c .volts .highest .value) ++ (r .soc ∷ 0 ∷ []))))
+    (wordBytes (r .pack .0) ++ (wordBytes (rawOf (r .current)) ++ (wordBytes (highestVoltage (c .volts) .0) ++ (r .soc ∷ 0 ∷ []))))
 
 -- ESM highest voltage index, highest temperature and index, lowest and index, 01
 unfoldable pub esmOf : Settings → ℕ → Cells → Frame
 esmOf x station c =
     frameOf ESM station (x .own)
-    (indexByte (c .volts .highest .index)
-    ∷ byteOf (c .heat .highest .value)
-    ∷ indexByte (c .heat .highest .index)
-    ∷ byteOf (c .heat .lowest .value)
-    ∷ indexByte (c .heat .lowest .index)
+    (indexByte (highestVoltageIndex (c .volts))
+    ∷ temperatureByte (highestTemperature (c .heat) .0)
+    ∷ indexByte (highestTemperatureIndex (c .heat))
+    ∷ temperatureByte (lowestTemperature (c .heat) .0)
+    ∷ indexByte (lowestTemperatureIndex (c .heat))
     ∷ 0x01
     ∷ 0
     ∷ 0
@@ -96,9 +94,9 @@ unfoldable pub edmOf : Settings → ℕ → Readings → Cells → Frame
 edmOf x station r c =
     frameOf EDM station (x .own)
     (r .soc
-    ∷ (wordBytes (c .volts .lowest .value)
-    ++ (wordBytes (c .volts .highest .value)
-    ++ (byteOf (c .heat .lowest .value) ∷ byteOf (c .heat .highest .value) ∷ 0 ∷ []))))
+    ∷ (wordBytes (lowestVoltage (c .volts) .0)
+    ++ (wordBytes (highestVoltage (c .volts) .0)
+    ++ (temperatureByte (lowestTemperature (c .heat) .0) ∷ temperatureByte (highestTemperature (c .heat) .0) ∷ 0 ∷ []))))
 
 -- EEM 10 00 00
 unfoldable pub eemOf : Settings → ℕ → Frame

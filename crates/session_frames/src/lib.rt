@@ -105,7 +105,7 @@ const HOLD_CELL: HundredthVolts = HundredthVolts(355);
 fn hold_voltage(x: Settings, c: Cells) -> TenthVolts
     ensures { λ r. ⌜ r ≡ holdVoltage x c ⌝ }
 {
-    HOLD_CELL.in_series(c.volts.count, x.limits.pack)
+    HOLD_CELL.in_series(c.volts.count(), x.limits.pack)
 }
 
 // 0 A as a raw current.
@@ -163,8 +163,8 @@ pub fn ecs(x: Settings, station: u8, r: Readings, c: Cells) -> Frame
     ensures { λ f. ⌜ f ≡ ecsOf x station r c ⌝ }
 {
     let v = r.pack.0;
-    let i = r.raw_current();
-    let h = c.volts.highest.value;
+    let i = r.raw_current().0;
+    let h = c.volts.highest().0;
     let soc = r.soc;
     Frame::new(
         table::row_at(table::ECS),
@@ -187,16 +187,16 @@ pub fn ecs(x: Settings, station: u8, r: Readings, c: Cells) -> Frame
 pub fn esm(x: Settings, station: u8, c: Cells) -> Frame
     ensures { λ f. ⌜ f ≡ esmOf x station c ⌝ }
 {
-    let a = sent::index_byte(c.volts.highest.index);
-    let b = c.heat.highest.value;
-    let d = sent::index_byte(c.heat.highest.index);
-    let e = c.heat.lowest.value;
-    let f = sent::index_byte(c.heat.lowest.index);
+    let a = sent::index_byte(c.volts.highest_index());
+    let b = sent::temperature_byte(c.heat.highest());
+    let d = sent::index_byte(c.heat.highest_index());
+    let e = sent::temperature_byte(c.heat.lowest());
+    let f = sent::index_byte(c.heat.lowest_index());
     Frame::new(
         table::row_at(table::ESM),
         station,
         x.own,
-        [a, (b % 256) as u8, d, (e % 256) as u8, f, 0x01, 0, 0],
+        [a, b, d, e, f, 0x01, 0, 0],
     )
 }
 
@@ -218,10 +218,10 @@ pub fn edm(x: Settings, station: u8, r: Readings, c: Cells) -> Frame
     ensures { λ f. ⌜ f ≡ edmOf x station r c ⌝ }
 {
     let soc = r.soc;
-    let a = c.volts.lowest.value;
-    let b = c.volts.highest.value;
-    let d = c.heat.lowest.value;
-    let e = c.heat.highest.value;
+    let a = c.volts.lowest().0;
+    let b = c.volts.highest().0;
+    let d = sent::temperature_byte(c.heat.lowest());
+    let e = sent::temperature_byte(c.heat.highest());
     Frame::new(
         table::row_at(table::EDM),
         station,
@@ -232,8 +232,8 @@ pub fn edm(x: Settings, station: u8, r: Readings, c: Cells) -> Frame
             top(a),
             (b % 256) as u8,
             top(b),
-            (d % 256) as u8,
-            (e % 256) as u8,
+            d,
+            e,
             0,
         ],
     )
