@@ -1,4 +1,5 @@
--- The list that the four places stand for, by how many are waiting: none, one, two, three, or all four. Assumes nothing.
+-- The list that the four places stand for, by how many are waiting: none, one, two, three, or all four. Assumes
+-- nothing.
 use Prim.Native.Nat.{ℕ, zero, suc, _-_, _≤_, _<_}
 use mathlib.Core.Path.{_≡_, refl, _∙_, ap}
 use mathlib.Core.Bool.{true, false, cond, _&&_, _||_, or-false}

@@ -1,5 +1,5 @@
--- A query's whole life at the front, while the tables stay as they are: it is sent each group of its table once, in order, a tick each, and
--- then it is gone and those behind it wait as they did. Assumes nothing.
+-- A query's whole life at the front, while the tables stay as they are: it is sent each group of its table once, in
+-- order, a tick each, and then it is gone and those behind it wait as they did. Assumes nothing.
 use Prim.Native.Nat.{ℕ, zero, suc, _+_, _-_, _*_, _/_, _≤_, _<_}
 use mathlib.Core.Path.{_≡_, ap}
 use mathlib.Core.Bool.{true, false}

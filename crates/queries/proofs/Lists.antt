@@ -1,5 +1,5 @@
--- The waiting queries as lists alone: the places hold any list of up to four, and asking and answering go from list to list. So a run of
--- calls can be followed on the list. Assumes nothing.
+-- The waiting queries as lists alone: the places hold any list of up to four, and asking and answering go from list to
+-- list. So a run of calls can be followed on the list. Assumes nothing.
 use Prim.Native.Nat.{ℕ, zero, suc, _+_, _≤_, _<_}
 use mathlib.Core.Path.{_≡_, refl, _∙_, ap}
 use mathlib.Core.Bool.{Bool, true, false, cond}

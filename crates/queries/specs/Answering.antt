@@ -1,5 +1,5 @@
--- What a tick answers (01, "Broadcasts and cell answers"): "the oldest waiting query sends one group, 4 voltages at PF 31 hex up or 8
--- temperatures at 81 up, priority 7, to its source".
+-- What a tick answers (01, "Broadcasts and cell answers"): "the oldest waiting query sends one group, 4 voltages at PF
+-- 31 hex up or 8 temperatures at 81 up, priority 7, to its source".
 use Prim.Native.Nat.{ℕ, _+_, _*_}
 use mathlib.Core.Path.{_≡_}
 use mathlib.Core.Bool.{Bool, cond}
@@ -65,8 +65,8 @@ unfoldable pub framesOf : ℕ → List ℕ → List ℤ → List Query → List 
 framesOf own v t [] = []
 framesOf own v t (q ∷ qs) = cond (pastEnd v t q) [] (groupFrame own v t q ∷ [])
 
--- who waits then: the oldest leaves where its next group begins past the table, "it leaves with its last group", and else it stays
--- the oldest
+-- who waits then: the oldest leaves where its next group begins past the table, "it leaves with its last group", and
+-- else it stays the oldest
 unfoldable pub laterOf : List ℕ → List ℤ → List Query → List Query
 laterOf v t [] = []
 laterOf v t (q ∷ qs) = cond (pastEnd v t q) qs (cond (atLast v t q) qs (nextGroup q ∷ qs))

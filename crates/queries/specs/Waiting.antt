@@ -1,4 +1,5 @@
--- The waiting queries (01, "Broadcasts and cell answers") as a list, the oldest first, and the four places that hold it.
+-- The waiting queries (01, "Broadcasts and cell answers") as a list, the oldest first, and the four places that hold
+-- it.
 use Prim.Native.Nat.{ℕ}
 use mathlib.Core.List.{List, [], _∷_}
 use lib.ListN.{length, getD, take}

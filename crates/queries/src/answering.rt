@@ -1,5 +1,5 @@
-// What the oldest query is answered at a tick (01, "Broadcasts and cell answers"): one group of its table, or nothing where its
-// next group begins past the table, which may be shorter than it was a tick ago.
+// What the oldest query is answered at a tick (01, "Broadcasts and cell answers"): one group of its table, or nothing
+// where its next group begins past the table, which may be shorter than it was a tick ago.
 ghost use mathlib.Core.Path.{_≡_};
 ghost use mathlib.Core.Bool.{true, false};
 ghost use Prim.Native.Nat.{_+_, _*_, _≤_, _<_};

@@ -1,5 +1,5 @@
-// The four places and the list that they stand for. A place past the last query is blank, so that the list says all that there
-// is.
+// The four places and the list that they stand for. A place past the last query is blank, so that the list says all
+// that there is.
 ghost use mathlib.Core.Path.{_≡_};
 ghost use mathlib.Core.Bool.{cond};
 ghost use mathlib.Core.List.{[], _∷_, _++_};
