@@ -1,5 +1,5 @@
--- The counter that is kept and the number of accepted ticks that grows for ever pass the same tests, after any number of ticks.
--- Assumes nothing.
+-- The counter that is kept and the number of accepted ticks that grows for ever pass the same tests, after any number
+-- of ticks. Assumes nothing.
 use Prim.Native.Nat.{ℕ, zero, suc, _+_, _-_, _*_, _/_, _%_}
 use mathlib.Core.Path.{_≡_, refl}
 use mathlib.Core.Bool.{Bool, true, false, cond}

@@ -1,5 +1,5 @@
--- The sendings in the paper's words: every thirtieth tick, the heartbeat clear at the first and turned at each; and the bytes of
--- status byte one. Assumes nothing.
+-- The sendings in the paper's words: every thirtieth tick, the heartbeat clear at the first and turned at each; and the
+-- bytes of status byte one. Assumes nothing.
 use Prim.Native.Nat.{ℕ, zero, suc, _+_, _*_, _/_, _%_, _<_, _≤_}
 use mathlib.Core.Path.{_≡_, refl}
 use mathlib.Core.Bool.{Bool, true, false, not}

@@ -1,5 +1,5 @@
--- The current of PS, read back: its two bytes are a word, and that word as two's complement is the current, over all of 16 bits.
--- Assumes nothing.
+-- The current of PS, read back: its two bytes are a word, and that word as two's complement is the current, over all of
+-- 16 bits. Assumes nothing.
 use Prim.Native.Nat.{ℕ, _-_}
 use mathlib.Core.Path.{_≡_}
 use mathlib.Core.Bool.{Bool, cond}

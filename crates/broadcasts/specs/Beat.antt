@@ -15,8 +15,8 @@ dueAt tick = eqb (tick % broadcastEach) 0
 abbrev pub heartbeatAt : ℕ → Bool
 heartbeatAt tick = eqb (tick / broadcastEach % 2) 1
 
--- What is kept of the tick number: 0 of a fresh controller, and after 59, the last tick of two sendings, it is 0 again. The law
--- `in-step` (proofs/InStep.antt) says that it passes the same tests as the number that grows.
+-- What is kept of the tick number: 0 of a fresh controller, and after 59, the last tick of two sendings, it is 0 again.
+-- The law `in-step` (proofs/InStep.antt) says that it passes the same tests as the number that grows.
 abbrev pub firstBeat : Beat
 firstBeat = record { tick = 0 }
 

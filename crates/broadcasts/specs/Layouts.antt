@@ -1,5 +1,5 @@
--- The five broadcasts (01, "Broadcasts and cell answers"). Every frame has 8 data bytes, zero after its fields; words are little
--- endian.
+-- The five broadcasts (01, "Broadcasts and cell answers"). Every frame has 8 data bytes, zero after its fields; words
+-- are little endian.
 use Prim.Native.Nat.{ℕ, _+_, _%_}
 use mathlib.Core.Bool.{Bool, cond}
 use mathlib.Core.List.{List, [], _∷_, _++_}

@@ -1,5 +1,5 @@
-// When the broadcasts are sent (01, "Broadcasts and cell answers"). The number of accepted ticks grows for ever; what is kept of
-// it is the number modulo 60, which passes the same tests and cannot overflow.
+// When the broadcasts are sent (01, "Broadcasts and cell answers"). The number of accepted ticks grows for ever; what
+// is kept of it is the number modulo 60, which passes the same tests and cannot overflow.
 ghost use mathlib.Core.Path.{_≡_};
 ghost use Rattle.broadcasts.specs.Beat.{dueAt, heartbeatAt, firstBeat, nextBeat};
 

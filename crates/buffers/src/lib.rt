@@ -1,5 +1,5 @@
-// Lent bytes. Reading a byte or a word of a slice, in it or past its end, and laying bytes into a lent buffer with a promise
-// of all that the buffer then holds. This crate may not know what the bytes mean.
+// Lent bytes. Reading a byte or a word of a slice, in it or past its end, and laying bytes into a lent buffer with a
+// promise of all that the buffer then holds. This crate may not know what the bytes mean.
 ghost use mathlib.Core.Path.{_≡_};
 ghost use Prim.Native.Nat.{_+_, _≤_, _<_};
 ghost use lib.ListN.{length, getD};

@@ -1,4 +1,5 @@
--- What the checks 14 and 15 give: the tables' lengths, each cell's range, and the bounds of their summaries. Assumes nothing.
+-- What the checks 14 and 15 give: the tables' lengths, each cell's range, and the bounds of their summaries. Assumes
+-- nothing.
 use Prim.Native.Nat.{_%_, ℕ, suc, _*_, _≤_, _<_}
 use mathlib.Core.Path.{_≡_}
 use mathlib.Core.List.{List, [], _∷_}

@@ -1,5 +1,5 @@
--- That the highest of the definitions is the highest, the lowest the lowest, the sum the sum, and each index the first, for a table of any
--- length. Assumes nothing.
+-- That the highest of the definitions is the highest, the lowest the lowest, the sum the sum, and each index the first,
+-- for a table of any length. Assumes nothing.
 use Prim.Native.Nat.{ℕ, zero, suc, _+_, _-_, _*_, _≤_, _<_}
 use mathlib.Core.Path.{_≡_, refl}
 use mathlib.Core.List.{List, [], _∷_, _++_}

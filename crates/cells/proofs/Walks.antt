@@ -1,5 +1,5 @@
--- Walks from the front of a table: one that keeps a value (the sum, the highest, the lowest so far), one that looks for a value, and
--- one that fills another table. Assumes nothing.
+-- Walks from the front of a table: one that keeps a value (the sum, the highest, the lowest so far), one that looks for
+-- a value, and one that fills another table. Assumes nothing.
 use Prim.Native.Nat.{ℕ, suc, _+_, _≤_, _<_}
 use mathlib.Core.Path.{_≡_, refl, sym, _∙_}
 use mathlib.Core.List.{List, [], _∷_}
@@ -16,8 +16,8 @@ use Rattle.units.specs.Units.{lesserOf}
 use Rattle.cells.specs.InnerWalk.{greaterOf}
 use Rattle.cells.proofs.Extremes.{index-here, index-after}
 
--- a walk can make the figure f by keeping one value: two cells in front count as the one value that is kept of them, and a cell alone is its
--- own figure
+-- a walk can make the figure f by keeping one value: two cells in front count as the one value that is kept of them,
+-- and a cell alone is its own figure
 pub record Keeps (f : List ℕ → ℕ) (keep : ℕ → ℕ → ℕ) : Type 0 where
   pub both : (k x : ℕ) (xs : List ℕ) → f (k ∷ x ∷ xs) ≡ f (keep k x ∷ xs)
   pub one : (k : ℕ) → f (k ∷ []) ≡ k

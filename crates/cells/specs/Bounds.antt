@@ -1,5 +1,5 @@
--- What holds of the summaries of any tables that are accepted (the law `cells-bounded`, proofs/Bounds.antt). A sender asks it of
--- the cells that it is handed, so that every number has room in its place of a frame.
+-- What holds of the summaries of any tables that are accepted (the law `cells-bounded`, proofs/Bounds.antt). A sender
+-- asks it of the cells that it is handed, so that every number has room in its place of a frame.
 use Prim.Native.Nat.{ℕ, _*_, _≤_}
 use Rattle.cells.specs.declared.Summary.{Summary}
 use Rattle.cells.specs.declared.Cells.{Cells}

@@ -1,4 +1,5 @@
--- The figures of the two tables by name, each with its unit (01, "Broadcasts and cell answers", and the layouts of "Session by tick").
+-- The figures of the two tables by name, each with its unit (01, "Broadcasts and cell answers", and the layouts of
+-- "Session by tick").
 use Prim.Native.Nat.{ℕ}
 use Rattle.units.specs.declared.HundredthVolts.{HundredthVolts}
 use Rattle.units.specs.declared.SentDegrees.{SentDegrees}

@@ -1,5 +1,5 @@
--- A group of cells as it is sent (01, "Broadcasts and cell answers"): 4 voltages or 8 temperatures. "The first cell of a group stands
--- last; empty places are 0."
+-- A group of cells as it is sent (01, "Broadcasts and cell answers"): 4 voltages or 8 temperatures. "The first cell of
+-- a group stands last; empty places are 0."
 use Prim.Native.Nat.{ℕ, _+_, _*_}
 use mathlib.Core.List.{List, [], _∷_, _++_}
 use lib.IntN.{ℤ}
@@ -13,7 +13,8 @@ voltagesPerGroup = 4
 abbrev pub temperaturesPerGroup : ℕ
 temperaturesPerGroup = 8
 
--- place k of group g, both counted from 0, is place g * 4 + k or g * 8 + k of the table; past the table it is 0. A voltage is a word
+-- place k of group g, both counted from 0, is place g * 4 + k or g * 8 + k of the table; past the table it is 0. A
+-- voltage is a word
 abbrev pub voltageAt : List ℕ → ℕ → ℕ → List ℕ
 voltageAt v group k = wordBytes (getD v (group * voltagesPerGroup + k) 0)
 

@@ -1,6 +1,6 @@
--- A temperature as it is sent (01, "Readings": "temperature -50 to 205 F, sent as F + 50"), and the one byte that is sent of a
--- temperature, of a count of cells and of a cell's index. What is sent of tables that are accepted is at most 255, so the byte is
--- the number itself (`one-byte`, proofs/Bounds.antt).
+-- A temperature as it is sent (01, "Readings": "temperature -50 to 205 F, sent as F + 50"), and the one byte that is
+-- sent of a temperature, of a count of cells and of a cell's index. What is sent of tables that are accepted is at most
+-- 255, so the byte is the number itself (`one-byte`, proofs/Bounds.antt).
 use Prim.Native.Nat.{ℕ, _%_}
 use mathlib.Core.List.{List, map}
 use lib.IntN.{ℤ, pos, natAbs, _+ℤ_}

@@ -1,6 +1,6 @@
--- What is said of a table (01, "Broadcasts and cell answers"): its count, sum, highest and lowest, and its average rounded down.
--- That the highest is the highest, the lowest the lowest and each index the first is proved of these definitions
--- (proofs/Extremes.antt).
+-- What is said of a table (01, "Broadcasts and cell answers"): its count, sum, highest and lowest, and its average
+-- rounded down. That the highest is the highest, the lowest the lowest and each index the first is proved of these
+-- definitions (proofs/Extremes.antt).
 use Prim.Native.Nat.{ℕ, suc, _+_, _/_}
 use mathlib.Core.Bool.{cond}
 use mathlib.Core.List.{List, [], _∷_}

@@ -1,4 +1,5 @@
-// A group of cells as it is sent: four voltages or eight temperatures, the first cell last (01, "Broadcasts and cell answers").
+// A group of cells as it is sent: four voltages or eight temperatures, the first cell last (01, "Broadcasts and cell
+// answers").
 ghost use mathlib.Core.Path.{_≡_};
 ghost use Rattle.cells.specs.Groups.{byteAt, voltageGroup, temperatureGroup};
 use crate::sent;

@@ -1,9 +1,9 @@
-// The cell tables that a tick lends: whether they may be taken, what is said of a table as a whole (its count, sum, highest and
-// lowest), and its groups as they are sent (01, "Readings", "Broadcasts and cell answers"). This crate may not know sessions,
-// queries or when anything is sent.
+// The cell tables that a tick lends: whether they may be taken, what is said of a table as a whole (its count, sum,
+// highest and lowest), and its groups as they are sent (01, "Readings", "Broadcasts and cell answers"). This crate may
+// not know sessions, queries or when anything is sent.
 //
-// A lent table is a slice of plain numbers, `&[u16]` or `&[i16]`: a slice of a unit's type would be a slice of structs, which the
-// prover does not cover. The unit is put on where figures are kept, in `Voltages` and `Temperatures`.
+// A lent table is a slice of plain numbers, `&[u16]` or `&[i16]`: a slice of a unit's type would be a slice of structs,
+// which the prover does not cover. The unit is put on where figures are kept, in `Voltages` and `Temperatures`.
 pub mod figures;
 pub mod groups;
 pub mod sent;

@@ -1,5 +1,5 @@
-// A temperature as it is sent, and the byte that is sent of a temperature, of a count and of an index: each rule in one place, for
-// broadcasts, cell answers and the station's frames alike.
+// A temperature as it is sent, and the byte that is sent of a temperature, of a count and of an index: each rule in one
+// place, for broadcasts, cell answers and the station's frames alike.
 ghost use mathlib.Core.Path.{_≡_};
 ghost use Rattle.cells.specs.Sent.{sentOf, temperatureByte, countByte, indexByte};
 use units::SentDegrees;

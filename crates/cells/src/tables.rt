@@ -1,5 +1,5 @@
-// Whether the two tables may be taken: their lengths (01, number 14), then the range of each cell (number 15); and the cell at a
-// place.
+// Whether the two tables may be taken: their lengths (01, number 14), then the range of each cell (number 15); and the
+// cell at a place.
 ghost use mathlib.Core.Path.{_≡_};
 ghost use lib.ListN.{getD};
 ghost use Rattle.cells.specs.Tables.{tablesFit, every, voltageOk, temperatureOk, cellsInRange};

@@ -1,5 +1,5 @@
-// What is said of a table of numbers (01, "Broadcasts and cell answers"): a walk from the front for each figure, then a search for
-// the first cell that has the highest, and for the first that has the lowest.
+// What is said of a table of numbers (01, "Broadcasts and cell answers"): a walk from the front for each figure, then a
+// search for the first cell that has the highest, and for the first that has the lowest.
 ghost use mathlib.Core.Path.{_≡_};
 ghost use Prim.Native.Nat.{_≤_};
 ghost use lib.ListN.{length};

@@ -1,5 +1,5 @@
--- A frame and the record that it is in a buffer (01, "Identifier and message numbers"): "In the buffer a frame is 13 bytes:
--- identifier in 4 bytes little endian, the length 8, the data."
+-- A frame and the record that it is in a buffer (01, "Identifier and message numbers"): "In the buffer a frame is 13
+-- bytes: identifier in 4 bytes little endian, the length 8, the data."
 use Prim.Native.Nat.{ℕ, _/_, _%_}
 use mathlib.Core.List.{List, [], _∷_, _++_}
 use lib.ListN.{getD}
@@ -12,8 +12,8 @@ use Rattle.frames.specs.declared.Frame.{Frame}
 abbrev pub recordSize : ℕ
 recordSize = 13
 
--- a message of the table, from us to a target, with its 8 data bytes; the length is the row's, 8 in every row that we send
--- (`sent-rows-have-eight`, messages)
+-- a message of the table, from us to a target, with its 8 data bytes; the length is the row's, 8 in every row that we
+-- send (`sent-rows-have-eight`, messages)
 abbrev pub frameOf : Row → ℕ → ℕ → List ℕ → Frame
 frameOf row target source bytes = record { id = identifierOf row target source; length = lengthOf row; bytes = bytes }
 

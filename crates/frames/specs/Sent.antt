@@ -7,8 +7,8 @@ use Rattle.buffers.specs.Laid.{Laid}
 use Rattle.frames.specs.declared.Frame.{Frame}
 use Rattle.frames.specs.Frame.{recordSize, recordsOf}
 
--- the frames `fs`, at most `most`: `next` is the place past them, a record a frame from `at` on, and the buffer `new` is `old`
--- with their records there
+-- the frames `fs`, at most `most`: `next` is the place past them, a record a frame from `at` on, and the buffer `new`
+-- is `old` with their records there
 pub record Sent (most : ℕ) (old new : List ℕ) (at next : ℕ) (fs : List Frame) : Type 0 where
   pub count : length fs ≤ most
   pub past : next ≡ at + recordSize * length fs

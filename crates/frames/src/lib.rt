@@ -1,5 +1,6 @@
-// A frame as it goes on the bus, the record that it is in a buffer, and frames laid one after the other into a lent buffer, with
-// a promise of the buffer's whole later contents. This crate may not know when a frame is due, or what its data mean.
+// A frame as it goes on the bus, the record that it is in a buffer, and frames laid one after the other into a lent
+// buffer, with a promise of the buffer's whole later contents. This crate may not know when a frame is due, or what its
+// data mean.
 ghost use mathlib.Core.Path.{_≡_};
 ghost use mathlib.Core.Bool.{cond};
 ghost use mathlib.Core.List.{[], _∷_};

@@ -1,4 +1,5 @@
--- Every row that we send has 8 data bytes: one computed test over the table past the nine that we receive. Assumes nothing.
+-- Every row that we send has 8 data bytes: one computed test over the table past the nine that we receive. Assumes
+-- nothing.
 use mathlib.Core.Path.{_≡_, refl}
 use mathlib.Core.Bool.{Bool, true, _&&_}
 use mathlib.Core.List.{List, [], _∷_}

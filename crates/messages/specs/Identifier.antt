@@ -1,5 +1,5 @@
--- A 29-bit identifier holds, from the top: priority 3 bits, reserved 1, data page 1, PF 8, PS 8, source 8
--- (01, "Identifier and message numbers"). So the source begins at 2^0, PS at 2^8, PF at 2^16, the data page at 2^24, the
+-- A 29-bit identifier holds, from the top: priority 3 bits, reserved 1, data page 1, PF 8, PS 8, source 8 (01,
+-- "Identifier and message numbers"). So the source begins at 2^0, PS at 2^8, PF at 2^16, the data page at 2^24, the
 -- reserved bit at 2^25 and the priority at 2^26.
 use Prim.Native.Nat.{ℕ, _+_, _*_, _/_, _%_}
 use mathlib.Core.Bool.{cond}

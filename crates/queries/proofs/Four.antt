@@ -1,4 +1,5 @@
--- The list that the four places stand for, by how many are waiting: none, one, two, three, or all four. Assumes nothing.
+-- The list that the four places stand for, by how many are waiting: none, one, two, three, or all four. Assumes
+-- nothing.
 use Prim.Native.Nat.{ℕ, zero, suc, _-_, _≤_, _<_}
 use mathlib.Core.Path.{_≡_, refl, _∙_, ap}
 use mathlib.Core.Bool.{true, false, cond, _&&_, _||_, or-false}
@@ -11,7 +12,7 @@ use lib.Seq.{take-nil}
 use Rattle.queries.specs.declared.Kind.{Kind}
 use Rattle.queries.specs.declared.Query.{Query}
 use Rattle.queries.specs.declared.Queries.{Queries}
-use Rattle.queries.specs.Waiting.{noQuery, waiting, queriesOf}
+use Rattle.queries.specs.Waiting.{mostWaiting, noQuery, waiting, queriesOf}
 use Rattle.queries.specs.Asking.{sameAsked, someAsks}
 
 -- the tests of the places where four or more are said to wait
@@ -39,7 +40,7 @@ module _ (a b c d : Query) where
   pub first-of-is :
       (n : ℕ)
       → record {
-        count = cond (ltb n 4) n 4;
+        count = cond (ltb n mostWaiting) n mostWaiting;
         first = cond (ltb 0 n) a noQuery;
         second = cond (ltb 1 n) b noQuery;
         third = cond (ltb 2 n) c noQuery;
@@ -54,14 +55,14 @@ module _ (a b c d : Query) where
   first-of-is (suc (suc (suc (suc n)))) = simp (four-0 n, four-1 n, four-2 n, four-3 n, no-more n, take-nil {A = Query} n)
 
   -- the first n of four without the oldest
-  pub left-is : (n m : ℕ) → m ≡ cond (ltb n 4) n 4 → 0 < m → take (m - 1) (b ∷ c ∷ d ∷ d ∷ []) ≡ drop 1 (take n four)
+  pub left-is : (n m : ℕ) → m ≡ cond (ltb n mostWaiting) n mostWaiting → 0 < m → take (m - 1) (b ∷ c ∷ d ∷ d ∷ []) ≡ drop 1 (take n four)
   left-is zero m e h = absurd (omega (arith, e))
   left-is (suc zero) m e h = rw e
   left-is (suc (suc zero)) m e h = rw e
   left-is (suc (suc (suc zero))) m e h = rw e
   left-is (suc (suc (suc (suc n)))) m e h = rw (e, no-more n, take-nil {A = Query} n)
 
-  pub none-left : (n m : ℕ) → m ≡ cond (ltb n 4) n 4 → m ≤ 0 → [] ≡ drop 1 (take n four)
+  pub none-left : (n m : ℕ) → m ≡ cond (ltb n mostWaiting) n mostWaiting → m ≤ 0 → [] ≡ drop 1 (take n four)
   none-left zero m e h = refl
   none-left (suc zero) m e h = absurd (omega (arith, e))
   none-left (suc (suc zero)) m e h = absurd (omega (arith, e))
@@ -69,7 +70,7 @@ module _ (a b c d : Query) where
   none-left (suc (suc (suc (suc n)))) m e h = absurd (omega (arith, rw (no-more n) at e))
 
   -- four wait where four or more are said to
-  pub four-wait : (n : ℕ) → leb 4 (length (take n four)) ≡ leb 4 n
+  pub four-wait : (n : ℕ) → leb mostWaiting (length (take n four)) ≡ leb mostWaiting n
   four-wait zero = refl
   four-wait (suc zero) = refl
   four-wait (suc (suc zero)) = refl
@@ -107,7 +108,7 @@ three-left n h a b c = omega arith
 module _ (q r : Queries) where
   pub left-places :
       (m : ℕ)
-      → m ≡ cond (ltb (q .count) 4) (q .count) 4
+      → m ≡ cond (ltb (q .count) mostWaiting) (q .count) mostWaiting
       → 0 < m
       → r ≡ queriesOf (take (m - 1) (q .second ∷ q .third ∷ q .fourth ∷ q .fourth ∷ []))
       → r ≡ queriesOf (drop 1 (waiting q))
@@ -116,7 +117,7 @@ module _ (q r : Queries) where
       p ∙ ap queriesOf (left-is (q .first) (q .second) (q .third) (q .fourth) (q .count) m e h)
 
   pub none-places :
-      (m : ℕ) → m ≡ cond (ltb (q .count) 4) (q .count) 4 → m ≤ 0 → r ≡ queriesOf [] → r ≡ queriesOf (drop 1 (waiting q))
+      (m : ℕ) → m ≡ cond (ltb (q .count) mostWaiting) (q .count) mostWaiting → m ≤ 0 → r ≡ queriesOf [] → r ≡ queriesOf (drop 1 (waiting q))
   unfolding waiting
   none-places m e h p =
       p ∙ ap queriesOf (none-left (q .first) (q .second) (q .third) (q .fourth) (q .count) m e h)
@@ -131,7 +132,7 @@ module _ (q r : Queries) where
 
   pub added-places :
       (x : Query)
-      → q .count < 4
+      → q .count < mostWaiting
       → (q .count ≡ 0 → ⊥)
       → (q .count ≡ 1 → ⊥)
       → (q .count ≡ 2 → ⊥)

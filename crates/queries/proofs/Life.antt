@@ -1,5 +1,5 @@
--- A query's whole life at the front, while the tables stay as they are: it is sent each group of its table once, in order, a tick each, and
--- then it is gone and those behind it wait as they did. Assumes nothing.
+-- A query's whole life at the front, while the tables stay as they are: it is sent each group of its table once, in
+-- order, a tick each, and then it is gone and those behind it wait as they did. Assumes nothing.
 use Prim.Native.Nat.{ℕ, zero, suc, _+_, _-_, _*_, _/_, _≤_, _<_}
 use mathlib.Core.Path.{_≡_, ap}
 use mathlib.Core.Bool.{true, false}
@@ -12,7 +12,7 @@ use Rattle.queries.specs.declared.Kind.{Kind}
 use Rattle.queries.specs.declared.Kind.the-variants.{Voltages, Temperatures}
 use Rattle.queries.specs.declared.Query.{Query}
 use Rattle.queries.specs.Asking.{freshQuery}
-use Rattle.queries.specs.Answering.{perGroup, groupFrame, cellCount, pastEnd, atLast, nextGroup, framesOf, laterOf}
+use Rattle.queries.specs.Answering.{perGroup, groupFrame, tableLength, pastEnd, atLast, nextGroup, framesOf, laterOf}
 
 module _ (own : ℕ) (v : List ℕ) (t : List ℤ) where
   -- who waits after so many ticks, and all that they sent
@@ -31,8 +31,8 @@ module _ (own : ℕ) (v : List ℕ) (t : List ℤ) where
 
   -- k more groups begin within the table after the one that the query is at
   pub record Left (k : ℕ) (q : Query) : Type 0 where
-    pub begins : (q .group + k) * perGroup (q .kind) < cellCount (q .kind) v t
-    pub ends : cellCount (q .kind) v t ≤ (q .group + k + 1) * perGroup (q .kind)
+    pub begins : (q .group + k) * perGroup (q .kind) < tableLength (q .kind) v t
+    pub ends : tableLength (q .kind) v t ≤ (q .group + k + 1) * perGroup (q .kind)
 
   here : (kind : Kind) (g k n : ℕ) → (g + k) * perGroup kind < n → g * perGroup kind < n
   here Voltages g k n h = omega arith
@@ -57,26 +57,26 @@ module _ (own : ℕ) (v : List ℕ) (t : List ℤ) where
   on : (k : ℕ) (q : Query) → Left (suc k) q → Left k (nextGroup q)
   on k q l =
       record {
-        begins = on-begins (q .kind) (q .group) k (cellCount (q .kind) v t) (l .begins);
-        ends = on-ends (q .kind) (q .group) k (cellCount (q .kind) v t) (l .ends);
+        begins = on-begins (q .kind) (q .group) k (tableLength (q .kind) v t) (l .begins);
+        ends = on-ends (q .kind) (q .group) k (tableLength (q .kind) v t) (l .ends);
       }
 
   within : (k : ℕ) (q : Query) → Left k q → pastEnd v t q ≡ false
   unfolding pastEnd
   within k q l =
-      let n = cellCount (q .kind) v t in
+      let n = tableLength (q .kind) v t in
       lt-leb n (q .group * perGroup (q .kind)) (here (q .kind) (q .group) k n (l .begins))
 
   goes-on : (k : ℕ) (q : Query) → Left (suc k) q → atLast v t q ≡ false
   unfolding atLast
   goes-on k q l =
-      let n = cellCount (q .kind) v t in
+      let n = tableLength (q .kind) v t in
       lt-leb n ((q .group + 1) * perGroup (q .kind)) (after (q .kind) (q .group) k n (l .begins))
 
   leaves : (q : Query) → Left 0 q → atLast v t q ≡ true
   unfolding atLast
   leaves q l =
-      let n = cellCount (q .kind) v t in
+      let n = tableLength (q .kind) v t in
       le-leb n ((q .group + 1) * perGroup (q .kind)) (last (q .kind) (q .group) n (l .ends))
 
   -- all its groups are sent
@@ -104,7 +104,7 @@ module _ (own : ℕ) (v : List ℕ) (t : List ℤ) where
 
   pub fresh-left :
       (source : ℕ) (kind : Kind)
-      → 0 < cellCount kind v t
-      → Left ((cellCount kind v t - 1) / perGroup kind) (freshQuery source kind)
+      → 0 < tableLength kind v t
+      → Left ((tableLength kind v t - 1) / perGroup kind) (freshQuery source kind)
   fresh-left source kind h =
-      record { begins = fresh-begins kind (cellCount kind v t) h; ends = fresh-ends kind (cellCount kind v t) h }
+      record { begins = fresh-begins kind (tableLength kind v t) h; ends = fresh-ends kind (tableLength kind v t) h }

@@ -16,37 +16,37 @@ use Rattle.queries.specs.declared.Kind.the-variants.{Voltages, Temperatu
 use Rattle.queries.specs.declared.Query.{Query}
 use Rattle.queries.specs.declared.Queries.{Queries}
 use Rattle.queries.specs.declared.Answered.{Answered}
-use Rattle.queries.specs.Waiting.{waiting, queriesOf}
-use Rattle.queries.specs.Asking.{someAsks, askNumber, freshQuery, askedOf}
-use Rattle.queries.specs.Answering.{perGroup, groupFrame, cellCount, pastEnd, atLast, nextGroup, framesOf, laterOf, Answers}
+use Rattle.queries.specs.Waiting.{mostWaiting, waiting, queriesOf}
+use Rattle.queries.specs.Asking.{someAsks, askNumber, freshQuery, queuedOf}
+use Rattle.queries.specs.Answering.{perGroup, groupFrame, tableLength, pastEnd, atLast, nextGroup, framesOf, laterOf, Answers}
 use Rattle.queries.proofs.Four.{four-wait, oldest-first}
 
 -- how many wait, as the count says it
-full : (q : Queries) → leb 4 (length (waiting q)) ≡ leb 4 (q .count)
+full : (q : Queries) → leb mostWaiting (length (waiting q)) ≡ leb mostWaiting (q .count)
 unfolding waiting
 full q = four-wait (q .first) (q .second) (q .third) (q .fourth) (q .count)
 
 module _ (q : Queries) (source : ℕ) (kind : Kind) where
-  pub asked-12 : someAsks source kind (waiting q) ≡ true → record { number = 12; queries = q } ≡ askedOf q source kind
-  unfolding askedOf askNumber
+  pub asked-12 : someAsks source kind (waiting q) ≡ true → record { number = 12; queries = q } ≡ queuedOf q source kind
+  unfolding queuedOf askNumber
   asked-12 h = rw h
 
   pub asked-13 :
-      someAsks source kind (waiting q) ≡ false → 4 ≤ q .count → record { number = 13; queries = q } ≡ askedOf q source kind
-  unfolding askedOf askNumber
-  asked-13 h k = rw (h, full q, le-leb 4 (q .count) k)
+      someAsks source kind (waiting q) ≡ false → mostWaiting ≤ q .count → record { number = 13; queries = q } ≡ queuedOf q source kind
+  unfolding queuedOf askNumber
+  asked-13 h k = rw (h, full q, le-leb mostWaiting (q .count) k)
 
   pub asked-0 :
       someAsks source kind (waiting q) ≡ false
-      → q .count < 4
+      → q .count < mostWaiting
       → (s : Queries)
       → s ≡ queriesOf (waiting q ++ (freshQuery source kind ∷ []))
-      → record { number = 0; queries = s } ≡ askedOf q source kind
-  unfolding askedOf askNumber
-  asked-0 h k s e = rw (h, full q, lt-leb 4 (q .count) k, e)
+      → record { number = 0; queries = s } ≡ queuedOf q source kind
+  unfolding queuedOf askNumber
+  asked-0 h k s e = rw (h, full q, lt-leb mostWaiting (q .count) k, e)
 
 -- the tests of a tick; accepted tables have one length
-count-is : (v : List ℕ) (t : List ℤ) → tablesFit v t ≡ true → (kind : Kind) → cellCount kind v t ≡ length v
+count-is : (v : List ℕ) (t : List ℤ) → tablesFit v t ≡ true → (kind : Kind) → tableLength kind v t ≡ length v
 count-is v t f Voltages = refl
 count-is v t f Temperatures = sym (fit v t f .same)
 

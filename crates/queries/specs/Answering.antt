@@ -1,5 +1,5 @@
--- What a tick answers (01, "Broadcasts and cell answers"): "the oldest waiting query sends one group, 4 voltages at PF 31 hex up or 8
--- temperatures at 81 up, priority 7, to its source".
+-- What a tick answers (01, "Broadcasts and cell answers"): "the oldest waiting query sends one group, 4 voltages at PF
+-- 31 hex up or 8 temperatures at 81 up, priority 7, to its source".
 use Prim.Native.Nat.{ℕ, _+_, _*_}
 use mathlib.Core.Path.{_≡_}
 use mathlib.Core.Bool.{Bool, cond}
@@ -8,7 +8,7 @@ use lib.Dec.{leb}
 use lib.IntN.{ℤ}
 use lib.ListN.{length}
 use Rattle.messages.specs.declared.table.Row.{Row}
-use Rattle.messages.specs.Table.{VOLTAGES, TEMPERATURES}
+use Rattle.messages.specs.Table.{pfOf, priorityOf, lengthOf, broadcastPs, VOLTAGES, TEMPERATURES}
 use Rattle.frames.specs.declared.Frame.{Frame}
 use Rattle.frames.specs.Frame.{frameOf}
 use Rattle.cells.specs.Groups.{voltagesPerGroup, temperaturesPerGroup, voltageGroup, temperatureGroup}
@@ -30,7 +30,8 @@ firstRow Temperatures = TEMPERATURES
 
 -- and of group g, from 0: its PF is g more
 abbrev pub rowAfter : Row → ℕ → Row
-rowAfter row group = record { 0 = row .0 + group; 1 = row .1; 2 = row .2; 3 = row .3 }
+rowAfter row group =
+    record { 0 = pfOf row + group; 1 = priorityOf row; 2 = lengthOf row; 3 = broadcastPs row }
 
 abbrev pub rowOf : Kind → ℕ → Row
 rowOf kind group = rowAfter (firstRow kind) group
@@ -44,17 +45,17 @@ unfoldable pub groupFrame : ℕ → List ℕ → List ℤ → Query → Frame
 groupFrame own v t q = frameOf (rowOf (q .kind) (q .group)) (q .source) own (groupBytes (q .kind) v t (q .group))
 
 -- how many cells the query's table holds
-abbrev pub cellCount : Kind → List ℕ → List ℤ → ℕ
-cellCount Voltages v t = length v
-cellCount Temperatures v t = length t
+abbrev pub tableLength : Kind → List ℕ → List ℤ → ℕ
+tableLength Voltages v t = length v
+tableLength Temperatures v t = length t
 
 -- "its next group begins past the table"
 unfoldable pub pastEnd : List ℕ → List ℤ → Query → Bool
-pastEnd v t q = leb (cellCount (q .kind) v t) (q .group * perGroup (q .kind))
+pastEnd v t q = leb (tableLength (q .kind) v t) (q .group * perGroup (q .kind))
 
 -- it is at "its last group": the one after it begins past the table
 unfoldable pub atLast : List ℕ → List ℤ → Query → Bool
-atLast v t q = leb (cellCount (q .kind) v t) ((q .group + 1) * perGroup (q .kind))
+atLast v t q = leb (tableLength (q .kind) v t) ((q .group + 1) * perGroup (q .kind))
 
 abbrev pub nextGroup : Query → Query
 nextGroup q = record { source = q .source; kind = q .kind; group = q .group + 1 }
@@ -64,7 +65,8 @@ unfoldable pub framesOf : ℕ → List ℕ → List ℤ → List Query → List 
 framesOf own v t [] = []
 framesOf own v t (q ∷ qs) = cond (pastEnd v t q) [] (groupFrame own v t q ∷ [])
 
--- who waits then: the oldest leaves where its next group begins past the table, "it leaves with its last group", and else it stays the oldest
+-- who waits then: the oldest leaves where its next group begins past the table, "it leaves with its last group", and
+-- else it stays the oldest
 unfoldable pub laterOf : List ℕ → List ℤ → List Query → List Query
 laterOf v t [] = []
 laterOf v t (q ∷ qs) = cond (pastEnd v t q) qs (cond (atLast v t q) qs (nextGroup q ∷ qs))

@@ -8,8 +8,8 @@ use Rattle.queries.specs.declared.Kind.{Kind}
 use Rattle.queries.specs.declared.Kind.the-variants.{Voltages, Temperatures}
 use Rattle.queries.specs.declared.Query.{Query}
 use Rattle.queries.specs.declared.Queries.{Queries}
-use Rattle.queries.specs.declared.Asked.{Asked}
-use Rattle.queries.specs.Waiting.{waiting, queriesOf}
+use Rattle.queries.specs.declared.Queued.{Queued}
+use Rattle.queries.specs.Waiting.{mostWaiting, waiting, queriesOf}
 
 abbrev pub sameKind : Kind → Kind → Bool
 sameKind Voltages Voltages = true
@@ -27,15 +27,15 @@ someAsks source kind (q ∷ qs) = sameAsked source kind q || someAsks source kin
 
 -- 12: "same source and kind already waiting"; then 13: "four waiting"; 0 is taken
 unfoldable pub askNumber : ℕ → Kind → List Query → ℕ
-askNumber source kind qs = cond (someAsks source kind qs) 12 (cond (leb 4 (length qs)) 13 0)
+askNumber source kind qs = cond (someAsks source kind qs) 12 (cond (leb mostWaiting (length qs)) 13 0)
 
 -- a query that is taken waits behind the others, for its first group
 abbrev pub freshQuery : ℕ → Kind → Query
 freshQuery source kind = record { source = source; kind = kind; group = 0 }
 
 -- "A refusal alters nothing"
-unfoldable pub askedOf : Queries → ℕ → Kind → Asked
-askedOf q source kind =
+unfoldable pub queuedOf : Queries → ℕ → Kind → Queued
+queuedOf q source kind =
     record {
       number = askNumber source kind (waiting q);
       queries =

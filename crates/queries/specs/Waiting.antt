@@ -1,9 +1,15 @@
--- The waiting queries (01, "Broadcasts and cell answers") as a list, the oldest first, and the four places that hold it.
+-- The waiting queries (01, "Broadcasts and cell answers") as a list, the oldest first, and the four places that hold
+-- it.
+use Prim.Native.Nat.{ℕ}
 use mathlib.Core.List.{List, [], _∷_}
 use lib.ListN.{length, getD, take}
 use Rattle.queries.specs.declared.Kind.the-variants.{Voltages}
 use Rattle.queries.specs.declared.Query.{Query}
 use Rattle.queries.specs.declared.Queries.{Queries}
+
+-- "four waiting" is the most
+abbrev pub mostWaiting : ℕ
+mostWaiting = 4
 
 -- a blank place
 abbrev pub noQuery : Query

@@ -1,9 +1,10 @@
-// What the oldest query is answered at a tick (01, "Broadcasts and cell answers"): one group of its table, or nothing where its next group
-// begins past the table, which may be shorter than it was a tick ago.
+// What the oldest query is answered at a tick (01, "Broadcasts and cell answers"): one group of its table, or nothing
+// where its next group begins past the table, which may be shorter than it was a tick ago.
 ghost use mathlib.Core.Path.{_≡_};
 ghost use mathlib.Core.Bool.{true, false};
 ghost use Prim.Native.Nat.{_+_, _*_, _≤_, _<_};
-ghost use Rattle.cells.specs.Tables.{mostCells, tablesFit, every, temperatureOk};
+ghost use Rattle.messages.specs.Table.{pfOf};
+ghost use Rattle.cells.specs.Tables.{mostCells, tablesFit};
 ghost use Rattle.queries.specs.Answering.{perGroup, rowAfter, rowOf, groupFrame, Answers};
 use crate::Answered;
 use crate::Kind;
@@ -27,10 +28,10 @@ fn cells_before(kind: Kind, group: usize) -> usize
 
 // A row with a higher PF.
 fn row_after(row: Row, group: u8) -> Row
-    requires { ⌜ row .0 + group < 256 ⌝ }
+    requires { ⌜ pfOf row + group < 256 ⌝ }
     ensures { λ r. ⌜ r ≡ rowAfter row group ⌝ }
 {
-    Row(row.0 + group, row.1, row.2, row.3)
+    Row(row.pf() + group, row.priority(), row.length(), row.ps())
 }
 
 // The row of a group that begins within a table.
@@ -45,7 +46,7 @@ fn row_of(kind: Kind, group: u8) -> Row
 }
 
 fn group_frame(q: Query, own: u8, v: &[u16], t: &[i16]) -> Frame
-    requires { ⌜ (q .group * perGroup (q .kind) < mostCells) × (every temperatureOk (now t) ≡ true) ⌝ }
+    requires { ⌜ q .group * perGroup (q .kind) < mostCells ⌝ }
     ensures { λ r. ⌜ r ≡ groupFrame own (now (v .entry)) (now (t .entry)) q ⌝ }
 {
     let kind = q.kind;
@@ -72,9 +73,9 @@ fn silent(queries: Queries) -> Answered
 }
 
 impl Queries {
-    // One tick, with tables of which neither 14 nor 15 was said.
+    // One tick, with tables of which 14 was not said.
     pub fn answer(self, own: u8, v: &[u16], t: &[i16]) -> Answered
-        requires { ⌜ (tablesFit (now v) (now t) ≡ true) × (every temperatureOk (now t) ≡ true) ⌝ }
+        requires { ⌜ tablesFit (now v) (now t) ≡ true ⌝ }
         ensures { λ r. ⌜ Answers self own (now (v .entry)) (now (t .entry)) r ⌝ }
     {
         if self.count == 0 {

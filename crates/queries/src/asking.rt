@@ -1,11 +1,12 @@
 // A query is taken, or refused by its number (01, "Numbers returned", 12 and 13).
 ghost use mathlib.Core.Path.{_≡_};
 ghost use Rattle.queries.specs.Waiting.{waiting};
-ghost use Rattle.queries.specs.Asking.{sameKind, sameAsked, someAsks, askedOf};
-use crate::Asked;
+ghost use Rattle.queries.specs.Asking.{sameKind, sameAsked, someAsks, queuedOf};
 use crate::Kind;
 use crate::Queries;
 use crate::Query;
+use crate::Queued;
+use crate::places;
 
 fn same_kind(a: Kind, b: Kind) -> bool
     ensures { λ r. ⌜ r ≡ sameKind a b ⌝ }
@@ -44,27 +45,27 @@ impl Queries {
     }
 
     // A query from any source.
-    pub fn ask(self, source: u8, kind: Kind) -> Asked
-        ensures { λ r. ⌜ r ≡ askedOf self source kind ⌝ }
+    pub fn ask(self, source: u8, kind: Kind) -> Queued
+        ensures { λ r. ⌜ r ≡ queuedOf self source kind ⌝ }
     {
         if self.waits(source, kind) {
-            return Asked {
+            return Queued {
                 number: 12,
                 queries: self,
             };
         }
-        if self.count < 4 {
+        if self.count < places::MOST {
             let fresh = Query {
                 source,
                 kind,
                 group: 0,
             };
-            Asked {
+            Queued {
                 number: 0,
                 queries: self.added(fresh),
             }
         } else {
-            Asked {
+            Queued {
                 number: 13,
                 queries: self,
             }

@@ -1,6 +1,6 @@
-// Cell queries: who waits for which table, and what the oldest is answered at a tick, a group of cells as one frame (01, "Broadcasts and
-// cell answers", numbers 12 and 13). Any value of the types is accepted, also one that no run reaches. This crate may not know
-// sessions, broadcasts, or the buffer that a frame goes into.
+// Cell queries: who waits for which table, and what the oldest is answered at a tick, a group of cells as one frame
+// (01, "Broadcasts and cell answers", numbers 12 and 13). Any value of the types is accepted, also one that no run
+// reaches. This crate may not know sessions, broadcasts, or the buffer that a frame goes into.
 use frames::Frame;
 
 pub mod answering;
@@ -30,7 +30,7 @@ pub struct Queries {
 }
 
 // What asking gives: the number, and the queries that wait then.
-pub struct Asked {
+pub struct Queued {
     pub number: u8,
     pub queries: Queries,
 }

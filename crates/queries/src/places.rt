@@ -1,15 +1,19 @@
-// The four places and the list that they stand for. A place past the last query is blank, so that the list says all that there is.
+// The four places and the list that they stand for. A place past the last query is blank, so that the list says all
+// that there is.
 ghost use mathlib.Core.Path.{_≡_};
 ghost use mathlib.Core.Bool.{cond};
 ghost use mathlib.Core.List.{[], _∷_, _++_};
 ghost use Prim.Native.Nat.{_-_, _+_, _<_};
 ghost use lib.Dec.{ltb};
 ghost use lib.ListN.{take, drop};
-ghost use Rattle.queries.specs.Waiting.{noQuery, waiting, queriesOf};
+ghost use Rattle.queries.specs.Waiting.{mostWaiting, noQuery, waiting, queriesOf};
 ghost use Rattle.queries.specs.Answering.{nextGroup};
 use crate::Kind;
 use crate::Queries;
 use crate::Query;
+
+// The most queries that wait at a time.
+pub const MOST: u8 = 4;
 
 // A place: the query where one is waiting there, else blank.
 fn place(waits: bool, q: Query) -> Query
@@ -37,7 +41,7 @@ fn first_of(count: u8, a: Query, b: Query, c: Query, d: Query) -> Queries
     ensures { λ r. ⌜ r ≡ queriesOf (take count (a ∷ b ∷ c ∷ d ∷ [])) ⌝ }
 {
     Queries {
-        count: at_most(count, 4),
+        count: at_most(count, MOST),
         first: place(0 < count, a),
         second: place(1 < count, b),
         third: place(2 < count, c),
@@ -60,7 +64,7 @@ impl Queries {
 
     // One more, behind all others.
     pub fn added(self, q: Query) -> Queries
-        requires { ⌜ self .count < 4 ⌝ }
+        requires { ⌜ self .count < mostWaiting ⌝ }
         ensures { λ r. ⌜ r ≡ queriesOf (waiting self ++ (q ∷ [])) ⌝ }
     {
         let n = self.count;
@@ -71,7 +75,7 @@ impl Queries {
             0 => first_of(1, q, q, q, q),
             1 => first_of(2, a, q, q, q),
             2 => first_of(3, a, b, q, q),
-            _ => first_of(4, a, b, c, q),
+            _ => first_of(MOST, a, b, c, q),
         }
     }
 
@@ -79,7 +83,7 @@ impl Queries {
     pub fn left(self) -> Queries
         ensures { λ r. ⌜ r ≡ queriesOf (drop 1 (waiting self)) ⌝ }
     {
-        let n = at_most(self.count, 4);
+        let n = at_most(self.count, MOST);
         let d = self.fourth;
         if 0 < n {
             first_of(n - 1, self.second, self.third, d, d)

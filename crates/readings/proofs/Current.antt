@@ -1,4 +1,5 @@
--- A current by its sign: what each definition says of a number that is not below 0, and of one that is. Assumes nothing.
+-- A current by its sign: what each definition says of a number that is not below 0, and of one that is. Assumes
+-- nothing.
 use Prim.Native.Nat.{ℕ, zero, suc, _+_, _-_, _≤_, _<_}
 use mathlib.Core.Path.{_≡_, refl, sym}
 use mathlib.Core.Bool.{true, false, and-true}

@@ -16,7 +16,8 @@ currentOk c = leZ (negsuc 19999) c && leZ c (pos 4000)
 unfoldable pub inRange : Readings → Bool
 inRange r = leb (r .one) 127 && (leb (r .soc) 100 && currentOk (r .current))
 
--- charge is wanted when status byte two has 80 hex set and 20 hex clear, and active faults has none of bits 8 to 2 (mask FE)
+-- charge is wanted when status byte two has 80 hex set and 20 hex clear, and active faults has none of bits 8 to 2
+-- (mask FE)
 unfoldable pub wantedOf : Readings → Bool
 wantedOf r =
     eqb (bitAnd (r .two) 0x80) 0x80 && (eqb (bitAnd (r .two) 0x20) 0 && eqb (bitAnd (r .faults .active) 0xfe) 0)

@@ -1,5 +1,5 @@
-// The pack's readings that a tick lends: their ranges (01, "Readings", number 15), whether charge is wanted, and how a current is
-// compared and sent. This crate may not know cells, frames or sessions.
+// The pack's readings that a tick lends: their ranges (01, "Readings", number 15), whether charge is wanted, and how a
+// current is compared and sent. This crate may not know cells, frames or sessions.
 ghost use mathlib.Core.Path.{_≡_};
 ghost use Rattle.readings.specs.Readings.{inRange, wantedOf, aboveOf, rawOf, bitsOf, currentOk};
 use units::RawAmps;
@@ -13,7 +13,8 @@ pub struct Marks {
     pub latched: u8,
 }
 
-// Status bytes one and two, SOC, current (0.1 A, positive into the pack), pack voltage, capacity, and the four fault bytes.
+// Status bytes one and two, SOC, current (0.1 A, positive into the pack), pack voltage, capacity, and the four fault
+// bytes.
 pub struct Readings {
     pub one: u8,
     pub two: u8,

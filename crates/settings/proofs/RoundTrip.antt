@@ -1,5 +1,5 @@
--- The two round trips of a settings record: reading what was written gives the settings back, and writing what was read gives the
--- bytes back. Assumes nothing.
+-- The two round trips of a settings record: reading what was written gives the settings back, and writing what was read
+-- gives the bytes back. Assumes nothing.
 use Prim.Native.Nat.{ℕ, zero, suc, _+_, _*_, _%_, _/_, _≤_}
 use native.Mathlib.Nat.{add-zero}
 use native.Mathlib.Numerals.{add-one}

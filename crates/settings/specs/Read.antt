@@ -1,5 +1,5 @@
--- A settings record read (01, "Settings record", numbers 1 and 2). Tags 1 to 5 have fixed lengths, so they stand at 0, 4, 9, 14 and
--- 19; tag 6 stands at 24 and has n stations, so tag 7 stands at 27 + n and the whole is 35 + n bytes long.
+-- A settings record read (01, "Settings record", numbers 1 and 2). Tags 1 to 5 have fixed lengths, so they stand at 0,
+-- 4, 9, 14 and 19; tag 6 stands at 24 and has n stations, so tag 7 stands at 27 + n and the whole is 35 + n bytes long.
 use Prim.Native.Nat.{ℕ, _+_}
 use mathlib.Core.Bool.{Bool, cond, _&&_}
 use mathlib.Core.List.{List}

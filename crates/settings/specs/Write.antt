@@ -1,5 +1,5 @@
--- Settings written into a lent buffer (01, "Numbers returned", 2 and 17): the number and the bytes written, and all that the buffer
--- then holds.
+-- Settings written into a lent buffer (01, "Numbers returned", 2 and 17): the number and the bytes written, and all
+-- that the buffer then holds.
 use Prim.Native.Nat.{ℕ}
 use mathlib.Core.Path.{_≡_}
 use mathlib.Core.Bool.{cond}
@@ -11,7 +11,8 @@ use Rattle.settings.specs.declared.Written.{Written}
 use Rattle.settings.specs.Range.{inRange}
 use Rattle.settings.specs.Record.{recordOf}
 
--- first 2, where a value is outside its range (no station or over 4 is 2 here); then 17, where the buffer is shorter than the record
+-- first 2, where a value is outside its range (no station or over 4 is 2 here); then 17, where the buffer is shorter
+-- than the record
 unfoldable pub writeNumber : Settings → List ℕ → ℕ
 writeNumber x old = cond (inRange x) (cond (ltb (length old) (length (recordOf x))) 17 0) 2
 

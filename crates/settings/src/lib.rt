@@ -1,5 +1,6 @@
-// The settings record: read from bytes and written as bytes, and the range of each value (01, "Settings record", numbers 1, 2
-// and 17). Reading and writing take anything: any bytes, any settings value, any buffer. This crate may not know frames or sessions.
+// The settings record: read from bytes and written as bytes, and the range of each value (01, "Settings record",
+// numbers 1, 2 and 17). Reading and writing take anything: any bytes, any settings value, any buffer. This crate may
+// not know frames or sessions.
 use units::HundredthVolts;
 use units::SentDegrees;
 use units::TenthAmps;

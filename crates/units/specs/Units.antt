@@ -1,4 +1,5 @@
--- Units (01, "What the box does": "tenths of a volt and hundredths of a volt are separate units"), and what is made of a value with its unit.
+-- Units (01, "What the box does": "tenths of a volt and hundredths of a volt are separate units"), and what is made of
+-- a value with its unit.
 use Prim.Native.Nat.{ℕ, _-_, _*_, _/_}
 use mathlib.Core.Bool.{cond}
 use lib.Dec.{leb}

@@ -1,6 +1,7 @@
-// Units, each a type of its own: a pack limit does not meet a cell limit, nor a temperature a voltage, without a conversion that says so
-// (01, "What the box does"). Values are compared by the methods here. A signed number is taken apart by its sign, in one place, so that
-// all that is said of it elsewhere is said of plain numbers. This crate may not know messages, settings or states.
+// Units, each a type of its own: a pack limit does not meet a cell limit, nor a temperature a voltage, without a
+// conversion that says so (01, "What the box does"). Values are compared by the methods here. A signed number is taken
+// apart by its sign, in one place, so that all that is said of it elsewhere is said of plain numbers. This crate may
+// not know messages, settings or states.
 ghost use mathlib.Core.Path.{_≡_};
 ghost use lib.Dec.{leb, ltb};
 ghost use Rattle.units.specs.Units.{lesserOf, inSeries, lesserAmps, halvedAmps, rawAmps};
@@ -45,8 +46,8 @@ impl HundredthVolts {
         other.0 <= self.0
     }
 
-    // So many cells of this voltage in series, in tenths of a volt rounded down, and not above `most`: the one place where hundredths
-    // become tenths.
+    // So many cells of this voltage in series, in tenths of a volt rounded down, and not above `most`: the one place
+    // where hundredths become tenths.
     pub fn in_series(self, cells: u16, most: TenthVolts) -> TenthVolts
         ensures { λ r. ⌜ r ≡ inSeries self cells most ⌝ }
     {

@@ -1,5 +1,5 @@
--- `buffers::lay` meets its contract. The loop's invariant: the bytes passed are stored, one after the other from `at` on.
--- The measure is what is left of them. Assumes nothing.
+-- `buffers::lay` meets its contract. The loop's invariant: the bytes passed are stored, one after the other from `at`
+-- on. The measure is what is left of them. Assumes nothing.
 use Prim.Native.Nat.{ℕ, _≤_, _+_, _-_}
 use mathlib.Core.Path.{_≡_, _∙_, ap}
 use mathlib.Core.List.{List}

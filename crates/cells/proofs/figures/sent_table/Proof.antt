@@ -1,4 +1,5 @@
--- `cells::figures::sent_table` meets its contract. The invariant: the cells passed stand in the table as they are sent. Assumes nothing.
+-- `cells::figures::sent_table` meets its contract. The invariant: the cells passed stand in the table as they are sent.
+-- Assumes nothing.
 use lib.Seq.{take-all}
 use borrow.Author.Needs.{needs}
 use native.Mathlib.Omega.{arith}

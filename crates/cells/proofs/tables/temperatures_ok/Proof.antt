@@ -1,5 +1,5 @@
--- `cells::tables::temperatures_ok` meets its contract. The invariant: the table is good where the cells passed are and the rest is.
--- Assumes nothing.
+-- `cells::tables::temperatures_ok` meets its contract. The invariant: the table is good where the cells passed are and
+-- the rest is. Assumes nothing.
 use Prim.Native.Nat.{_≤_, _-_}
 use mathlib.Core.Path.{_≡_}
 use mathlib.Core.Bool.{_&&_}

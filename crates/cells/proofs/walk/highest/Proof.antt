@@ -1,5 +1,5 @@
--- `cells::walk::highest` meets its contract. The invariant: the highest of the table is that of the value kept and the cells to come.
--- Assumes nothing.
+-- `cells::walk::highest` meets its contract. The invariant: the highest of the table is that of the value kept and the
+-- cells to come. Assumes nothing.
 use Prim.Native.Nat.{_≤_, _-_}
 use lib.ListN.{length}
 use Rattle.cells.specs.Summaries.{highestOf}

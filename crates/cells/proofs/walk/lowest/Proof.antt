@@ -1,5 +1,5 @@
--- `cells::walk::lowest` meets its contract. The invariant: the lowest of the table is that of the value kept and the cells to come.
--- Assumes nothing.
+-- `cells::walk::lowest` meets its contract. The invariant: the lowest of the table is that of the value kept and the
+-- cells to come. Assumes nothing.
 use Prim.Native.Nat.{_≤_, _-_}
 use lib.ListN.{length}
 use Rattle.cells.specs.Summaries.{lowestOf}

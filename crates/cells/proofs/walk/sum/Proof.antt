@@ -1,5 +1,5 @@
--- `cells::walk::sum` meets its contract. The invariant: the sum of the table is that of the value kept and the cells to come, and every
--- cell passed leaves room for the rest. Assumes nothing.
+-- `cells::walk::sum` meets its contract. The invariant: the sum of the table is that of the value kept and the cells to
+-- come, and every cell passed leaves room for the rest. Assumes nothing.
 use Prim.Native.Nat.{_*_, _≤_, _-_}
 use native.Mathlib.Omega.{arith}
 use lib.ListN.{length}

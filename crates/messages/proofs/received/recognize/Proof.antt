@@ -1,5 +1,5 @@
--- `messages::received::recognize` meets its contract: the match and the table agree, at each of the nine and at every other number.
--- Assumes nothing.
+-- `messages::received::recognize` meets its contract: the match and the table agree, at each of the nine and at every
+-- other number. Assumes nothing.
 use mathlib.Core.Path.{_≡_, ap, sym}
 use mathlib.Core.Bool.{false}
 use Prim.Native.Nat.{ℕ}

@@ -35,7 +35,7 @@ returns-2 : tie.Need-returns-2
 returns-2 c =
     let e = c .before .before .before .before .before .before in
     let s = e .before .before .before .args in
-    let f = e .before .before .before .pre .0 in
+    let f = e .before .before .before .pre in
     let b = c .before .before .before .cells-before in
     answers-past (s .self) (s .own) (s .v .now) (s .t .now) (some-wait _ (e .if1 .left))
     (is-past (s .v .now) (s .t .now) f (s .self .first) _ (b .ensures) (c .before .before .if2 .taken))
@@ -49,7 +49,7 @@ group-frame-requires c κs =
     let s = b .before .before .before .before .before .before in
     let v = s .args .v .now in
     let t = s .args .t .now in
-    (omega (arith, b .cells-before .ensures, c .if2 .left, fit v t (s .pre .0) .most), s .pre .1)
+    omega (arith, b .cells-before .ensures, c .if2 .left, fit v t (s .pre) .most)
 
 add-cells-before : tie.Need-add-cells-before
 add-cells-before c = search needs
@@ -65,7 +65,7 @@ returns-3 c =
     let g = c .before .before .before in
     let e = g .before .before .before .before .before in
     let s = e .before .before .before .args in
-    let f = e .before .before .before .pre .0 in
+    let f = e .before .before .before .pre in
     answers-last (s .self) (s .own) (s .v .now) (s .t .now) (some-wait _ (e .if1 .left))
     (not-past (s .v .now) (s .t .now) f (s .self .first) _ (g .before .before .cells-before .ensures) (g .before .if2 .left))
     _
@@ -81,7 +81,7 @@ moved-requires c κs =
     let v = s .args .v .now in
     let t = s .args .t .now in (
       some-wait _ (e .if1 .left),
-      group-within (s .args .self .first .kind) _ _ _ (c .before .cells-before2 .ensures) (c .if3 .left) (fit v t (s .pre .0) .most),
+      group-within (s .args .self .first .kind) _ _ _ (c .before .cells-before2 .ensures) (c .if3 .left) (fit v t (s .pre) .most),
     )
 
 returns-4 : tie.Need-returns-4
@@ -89,7 +89,7 @@ returns-4 c =
     let g = c .before .before .before in
     let e = g .before .before .before .before .before in
     let s = e .before .before .before .args in
-    let f = e .before .before .before .pre .0 in
+    let f = e .before .before .before .pre in
     answers-more (s .self) (s .own) (s .v .now) (s .t .now) (some-wait _ (e .if1 .left))
     (not-past (s .v .now) (s .t .now) f (s .self .first) _ (g .before .before .cells-before .ensures) (g .before .if2 .left))
     _

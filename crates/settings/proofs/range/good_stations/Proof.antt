@@ -1,4 +1,5 @@
--- `settings::range::good_stations` meets its contract: an arm a count, and no count but 1 to 4 is good. Assumes nothing.
+-- `settings::range::good_stations` meets its contract: an arm a count, and no count but 1 to 4 is good. Assumes
+-- nothing.
 use mathlib.Core.Bool.{and-true}
 use Rattle.settings.specs.Range.{within}
 use Rattle.settings.proofs.Laws.{stations-3, stations-4, stations-none}

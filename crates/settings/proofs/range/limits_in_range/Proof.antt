@@ -1,4 +1,5 @@
--- `settings::range::limits_in_range` meets its contract: the tests stand in the order of the definition. Assumes nothing.
+-- `settings::range::limits_in_range` meets its contract: the tests stand in the order of the definition. Assumes
+-- nothing.
 use Rattle.settings.specs.Range.{limitsInRange}
 use borrow.Author.Needs.{needs}
 use Rattle.settings.proofs.range.limits_in_range.Statement.{statement}

@@ -1,4 +1,5 @@
--- `settings::write::lay_record` meets its contract: front, stations and versions, laid one after the other. Assumes nothing.
+-- `settings::write::lay_record` meets its contract: front, stations and versions, laid one after the other. Assumes
+-- nothing.
 use Prim.Native.Nat.{ℕ}
 use native.Mathlib.Nat.{sub-zero}
 use mathlib.Core.Path.{sym, ap}
