@@ -18,8 +18,8 @@ use Rattle.session.specs.declared.Taken.{Taken}
 use Rattle.session.specs.Message.{messageOf}
 use Rattle.queries.specs.declared.Kind.{Kind}
 use Rattle.queries.specs.declared.Kind.the-variants.{Voltages, Temperatures}
-use Rattle.queries.specs.declared.Asked.{Asked}
-use Rattle.queries.specs.Asking.{askedOf}
+use Rattle.queries.specs.declared.Queued.{Queued}
+use Rattle.queries.specs.Asking.{queuedOf}
 use Rattle.refusals.specs.Frame.{messageIn, maySpeak}
 use Rattle.controller.specs.declared.Controller.{Controller}
 use Rattle.controller.specs.declared.Answer.{Answer}
@@ -51,12 +51,12 @@ kindOf Acv = Voltages
 kindOf Act = Temperatures
 
 -- the queries moved on, and nothing else of the controller
-unfoldable pub queriesMoved : Controller → Asked → Answer
+unfoldable pub queriesMoved : Controller → Queued → Answer
 queriesMoved c a = record { number = a .number; controller = withQueries c (a .queries) }
 
 -- a query: 12 and 13, by the waiting queries
 unfoldable pub queryTo : Controller → ℕ → Query → Answer
-queryTo c source q = queriesMoved c (askedOf (c .queries) source (kindOf q))
+queryTo c source q = queriesMoved c (queuedOf (c .queries) source (kindOf q))
 
 -- the message in a frame, or the number by which 3 to 8 refuse the frame
 unfoldable pub messageTo : Controller → ℕ → List ℕ → Recognized → Answer

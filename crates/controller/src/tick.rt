@@ -5,6 +5,7 @@ ghost use Rattle.refusals.specs.Tick.{tickNumber};
 ghost use Rattle.controller.specs.Tick.{TickIs};
 use crate::Controller;
 use crate::Ticked;
+use cells::figures;
 use readings::Readings;
 
 impl Controller {
@@ -13,26 +14,23 @@ impl Controller {
         requires { ⌜ tickNumber r (now v) (now t) (length (now buf)) ≡ 0 ⌝ }
         ensures { λ k. ⌜ TickIs self r (now (v .entry)) (now (t .entry)) (now (buf .entry)) (now (buf .exit)) k ⌝ }
     {
-        let settings = self.settings;
+        let x = self.settings;
         let session = self.session;
         let beat = self.beat;
-        let p = ticking::tick::part(settings, session, beat, r, v, t, buf);
         let waiting = self.queries;
-        let q = waiting.answer(settings.own, v, t);
+        let c = figures::summarize(v, t);
+        let s = session.tick(x, r, c);
+        let q = waiting.answer(x.own, v, t);
+        let charged = ticking::charge(s.frames, buf, 0);
+        let told = ticking::broadcast(x, beat, r, c, buf, charged);
         let f = q.frame;
-        let bytes = f.send_if(q.due, buf, p.at);
-        let next = p.session;
-        let later = beat.next();
-        let queries = q.queries;
+        let bytes = f.send_if(q.due, buf, told);
+        let moved = self.with_session(s.session);
+        let later = moved.with_beat(beat.next());
         Ticked {
             number: 0,
             bytes: bytes,
-            controller: Controller {
-                settings: settings,
-                session: next,
-                beat: later,
-                queries: queries,
-            },
+            controller: later.with_queries(q.queries),
         }
     }
 

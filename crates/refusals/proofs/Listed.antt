@@ -1,19 +1,13 @@
--- A station is listed where one of the first `count` places holds it; and a state that is not Idle. Assumes nothing.
+-- A station is listed where one of the first `count` places holds it. Assumes nothing.
 use Prim.Native.Nat.{ℕ, zero, suc}
 use mathlib.Core.Path.{_≡_, refl}
 use mathlib.Core.Bool.{Bool, true, false, not, _&&_, _||_}
-use mathlib.Core.List.{[], _∷_}
 use native.Mathlib.Omega.{arith}
 use lib.Dec.{eqb, ltb}
 use lib.Seq.{take-nil}
 use borrow.Author.Tests.{lt-ltb}
-use types.Run.{OneOf, miss}
-use denote.Enum.Declared.{tagOf}
-use Rattle.session_states.proofs.states.State.{the-type}
-use Rattle.session_states.specs.declared.states.State.{State}
-use Rattle.session_states.specs.declared.states.State.the-variants.{Idle, Offered, Unverified, Parameters, Ready, Charging, Stopping, Error}
 use Rattle.settings.specs.declared.Stations.{Stations}
-use Rattle.refusals.specs.Frame.{listed, isIdle}
+use Rattle.refusals.specs.Frame.{listed}
 
 -- one place more: it holds the source, or a later one does
 or-not : (a b : Bool) → not (not a && b) ≡ (a || not b)
@@ -56,14 +50,3 @@ module _ (source a b c d : ℕ) where
       || ((ltb 1 n && eqb source b) || ((ltb 2 n && eqb source c) || (ltb 3 n && eqb source d))))
       ≡ listed source (record { count = n; first = a; second = b; third = c; fourth = d })
   here-is n = listed-is n
-
-pub not-idle : (st : State) → OneOf (1 ∷ 2 ∷ 3 ∷ 4 ∷ 5 ∷ 6 ∷ 7 ∷ []) (tagOf the-type st) → false ≡ isIdle st
-unfolding isIdle
-not-idle Idle h = absurd (miss (1 ∷ 2 ∷ 3 ∷ 4 ∷ 5 ∷ 6 ∷ 7 ∷ []) 0 tt h)
-not-idle Offered h = refl
-not-idle Unverified h = refl
-not-idle Parameters h = refl
-not-idle (Ready a b) h = refl
-not-idle (Charging p) h = refl
-not-idle (Stopping a e) h = refl
-not-idle Error h = refl

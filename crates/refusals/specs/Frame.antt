@@ -7,6 +7,7 @@ use lib.ListN.{length}
 use Rattle.messages.specs.declared.identifier.Identifier.{Identifier}
 use Rattle.messages.specs.declared.received.Recognized.{Recognized}
 use Rattle.messages.specs.declared.received.Recognized.the-variants.{As, Refused}
+use Rattle.messages.specs.Table.{lengthOf}
 use Rattle.messages.specs.Identifier.{partsOf}
 use Rattle.messages.specs.Received.{rowOf, recognizedOf}
 use Rattle.settings.specs.declared.Stations.{Stations}
@@ -32,7 +33,7 @@ badSource own p = eqb (p .source) own || (eqb (p .source) 254 || eqb (p .source)
 
 -- 8: shorter than its least length; what 7 has refused stays refused
 unfoldable pub longEnough : List ℕ → Recognized → Recognized
-longEnough s (As m) = cond (ltb (length s) (rowOf m .2)) (Refused 8) (As m)
+longEnough s (As m) = cond (ltb (length s) (lengthOf (rowOf m))) (Refused 8) (As m)
 longEnough s (Refused n) = Refused n
 
 -- 3 to 8, in numeric order (7, "PF not one of the nine", is `recognizedOf`): the message in a frame, or the number of the first

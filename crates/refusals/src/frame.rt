@@ -42,7 +42,7 @@ fn long_enough(bytes: &[u8], known: Recognized) -> Recognized
     match known {
         Recognized::As(m) => {
             let row = m.row();
-            if bytes.len() < row.2 as usize {
+            if bytes.len() < row.length() as usize {
                 Recognized::Refused(8)
             } else {
                 Recognized::As(m)

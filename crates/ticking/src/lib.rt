@@ -1,14 +1,61 @@
-// What an accepted tick sends first: the session's frames and then the broadcasts, laid into the lent buffer one after the other, and
-// the next session (01, "Session by tick", "Broadcasts and cell answers"). Cells that nothing looks at are not walked.
-// This crate may not know controllers, cell queries or refusals: its caller shows that tables, cells and buffer were accepted.
-use session::Session;
+// What a tick sends, laid into the lent buffer: the session's frames, and the broadcasts where they are due (01, "Session by tick",
+// "Broadcasts and cell answers"). This crate may not know controllers, cell queries or refusals: its caller shows that the buffer has
+// room and that the cells were accepted.
+ghost use Prim.Native.Nat.{_+_, _*_, _≤_};
+ghost use lib.ListN.{length};
+ghost use Rattle.frames.specs.Frame.{recordSize};
+ghost use Rattle.frames.specs.Sent.{Sent};
+ghost use Rattle.cells.specs.Bounds.{BoundedCells};
+ghost use Rattle.session.specs.Frames.{frameList};
+ghost use Rattle.broadcasts.specs.Sendings.{inOrder, broadcastAt};
+use broadcasts::Broadcasts;
+use broadcasts::beat::Beat;
+use cells::Cells;
+use readings::Readings;
+use session::ChargeFrames;
+use settings::Settings;
 
-pub mod looking;
-pub mod sending;
-pub mod tick;
+// The session's frames: at most three.
+pub fn charge(f: ChargeFrames, buf: &mut [u8], at: usize) -> usize
+    requires { ⌜ at + 3 * recordSize ≤ length (now buf) ⌝ }
+    ensures { λ r. ⌜ Sent 3 (now (buf .entry)) (now (buf .exit)) at r (frameList f) ⌝ }
+{
+    let n = f.count;
+    let first = f.first;
+    let second = f.second;
+    let third = f.third;
+    let a = first.send_if(0 < n, buf, at);
+    let b = second.send_if(1 < n, buf, a);
+    third.send_if(2 < n, buf, b)
+}
 
-// The next session, and the place past the frames laid so far.
-pub struct Part {
-    pub session: Session,
-    pub at: usize,
+// The five broadcasts, in their order.
+fn five(f: Broadcasts, buf: &mut [u8], at: usize) -> usize
+    requires { ⌜ at + 5 * recordSize ≤ length (now buf) ⌝ }
+    ensures { λ r. ⌜ Sent 5 (now (buf .entry)) (now (buf .exit)) at r (inOrder f) ⌝ }
+{
+    let ps = f.ps;
+    let cvs = f.cvs;
+    let cts = f.cts;
+    let fws = f.fws;
+    let ec = f.ec;
+    let a = ps.send(buf, at);
+    let b = cvs.send(buf, a);
+    let c = cts.send(buf, b);
+    let d = fws.send(buf, c);
+    ec.send(buf, d)
+}
+
+// The broadcasts, where they are due.
+pub fn broadcast(x: Settings, beat: Beat, r: Readings, c: Cells, buf: &mut [u8], at: usize) -> usize
+    requires { ⌜ (at + 5 * recordSize ≤ length (now buf)) × BoundedCells c ⌝ }
+    ensures { λ n. ⌜ Sent 5 (now (buf .entry)) (now (buf .exit)) at n (broadcastAt (beat .tick) (x .own) (x .versions) r c) ⌝ }
+{
+    if beat.due() {
+        let versions = x.versions;
+        let sending = Broadcasts::new(x.own, versions, beat.heartbeat(), r, c);
+        five(sending, buf, at)
+    } else {
+        at
+    }
 }
