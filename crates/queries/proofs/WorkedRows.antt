@@ -7,7 +7,7 @@ use native.Mathlib.Omega.{arith}
 use borrow.Author.Tests.{leb-true, leb-false}
 use lib.IntN.{ℤ}
 use lib.ListN.{length}
-use Rattle.messages.specs.Table.{toTarget}
+use Rattle.messages.specs.Table.{pfOf, toTarget}
 use Rattle.frames.specs.Frame.{frameOf}
 use Rattle.queries.specs.declared.Kind.the-variants.{Voltages, Temperatures}
 use Rattle.queries.specs.declared.Query.{Query}
@@ -30,13 +30,13 @@ module _ (v : List ℕ) (t : List ℤ) (source group : ℕ) where
   temperatures = record { source = source; kind = Temperatures; group = group }
 
   pub voltages-end :
-      length v ≡ 255 → pastEnd v t voltages ≡ false → atLast v t voltages ≡ true → rowOf Voltages group .0 ≡ 0x70
+      length v ≡ 255 → pastEnd v t voltages ≡ false → atLast v t voltages ≡ true → pfOf (rowOf Voltages group) ≡ 0x70
   unfolding pastEnd atLast
   voltages-end n p l =
       omega (arith, leb-false (length v) (group * 4) p, leb-true (length v) ((group + 1) * 4) l)
 
   pub temperatures-end :
-      length t ≡ 255 → pastEnd v t temperatures ≡ false → atLast v t temperatures ≡ true → rowOf Temperatures group .0 ≡ 0xa0
+      length t ≡ 255 → pastEnd v t temperatures ≡ false → atLast v t temperatures ≡ true → pfOf (rowOf Temperatures group) ≡ 0xa0
   unfolding pastEnd atLast
   temperatures-end n p l =
       omega (arith, leb-false (length t) (group * 8) p, leb-true (length t) ((group + 1) * 8) l)
