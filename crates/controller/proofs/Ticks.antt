@@ -3,30 +3,28 @@ use Prim.Native.Nat.{ℕ, _*_}
 use native.Mathlib.Nat.{zero-add}
 use mathlib.Core.Path.{_≡_, sym, _∙_}
 use mathlib.Core.Bool.{Bool, false}
-use mathlib.Core.List.{List, _++_, append-assoc}
+use mathlib.Core.List.{List}
 use lib.Dec.{eqb}
 use lib.IntN.{ℤ}
 use lib.ListN.{length}
 use borrow.Author.Tests.{ne-eqb}
 use Rattle.frames.specs.Sent.{Sent}
-use Rattle.frames.proofs.Laws.{sent-eq, sent-start}
+use Rattle.frames.specs.Frame.{recordSize}
+use Rattle.frames.proofs.Laws.{sent-start}
 use Rattle.readings.specs.declared.Readings.{Readings}
-use Rattle.refusals.specs.Tick.{tickNumber}
-use Rattle.ticking.specs.First.{firstFrames}
+use Rattle.refusals.specs.Tick.{mostFrames, tickNumber}
 use Rattle.controller.specs.declared.Controller.{Controller}
-use Rattle.controller.specs.Tick.{tickFrames, chargeFrames, broadcastFrames, cellFrames, tickNext, accepted, TickIs}
+use Rattle.controller.specs.Tick.{tickFrames, tickNext, accepted, TickIs}
 
 module _ (c : Controller) (r : Readings) (v : List ℕ) (t : List ℤ) (old : List ℕ) where
-  -- the frames of the two parts, one after the other, are the tick's
+  -- the three parts, one after the other, are the tick's
   pub accepted-tick : (new : List ℕ) (next : ℕ) (k : Controller) → tickNumber r v t (length old) ≡ 0
-      → Sent 9 old new 0 next (firstFrames (c .settings) (c .session) (c .beat) r v t ++ cellFrames c r v t) → k ≡ tickNext c r v t
+      → Sent mostFrames old new 0 next (tickFrames c r v t) → k ≡ tickNext c r v t
       → TickIs c r v t old new (record { number = 0; bytes = next; controller = k })
-  unfolding accepted tickFrames chargeFrames broadcastFrames firstFrames
+  unfolding accepted
   accepted-tick new next k z s e =
-      let f : Sent 9 old new 0 next (tickFrames c r v t) =
-      sent-eq s (append-assoc (chargeFrames c r v t) (broadcastFrames c r v t) (cellFrames c r v t)) in
-      let n : next ≡ 13 * length (tickFrames c r v t) = f .thirteen ∙ zero-add (13 * length (tickFrames c r v t)) in
-      record { number = sym z; bytes = rw z n; next = rw z e; later = rw z (sent-start f) }
+      let n : next ≡ recordSize * length (tickFrames c r v t) = s .past ∙ zero-add (recordSize * length (tickFrames c r v t)) in
+      record { number = sym z; bytes = rw z n; next = rw z e; later = rw z (sent-start s) }
 
   -- a refused tick changes nothing
   pub refused-tick : (n : ℕ) → n ≡ tickNumber r v t (length old) → (n ≡ 0 → ⊥)

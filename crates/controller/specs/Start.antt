@@ -6,7 +6,7 @@ use Rattle.settings.specs.declared.Settings.{Settings}
 use Rattle.settings.specs.declared.SettingsRead.{SettingsRead}
 use Rattle.settings.specs.declared.SettingsRead.the-variants as read
 use Rattle.settings.specs.Read.{readOf, recordNumber}
-use Rattle.session.specs.Message.{idleSession}
+use Rattle.session.specs.Session.{idleSession}
 use Rattle.broadcasts.specs.Beat.{firstBeat}
 use Rattle.queries.specs.Waiting.{queriesOf}
 use Rattle.controller.specs.declared.Controller.{Controller}

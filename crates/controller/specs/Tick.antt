@@ -8,7 +8,7 @@ use lib.Dec.{eqb}
 use lib.IntN.{ℤ}
 use lib.ListN.{length, drop}
 use Rattle.frames.specs.declared.Frame.{Frame}
-use Rattle.frames.specs.Frame.{recordsOf}
+use Rattle.frames.specs.Frame.{recordSize, recordsOf}
 use Rattle.readings.specs.declared.Readings.{Readings}
 use Rattle.cells.specs.Summaries.{cellsOf}
 use Rattle.session.specs.Tick.{tickOf, sentOf}
@@ -53,6 +53,6 @@ module _ (c : Controller) (r : Readings) (v : List ℕ) (t : List ℤ) where
   -- and the buffer's later contents, the frames' records from its start and the rest unchanged, all of it unchanged if refused
   pub record TickIs (old new : List ℕ) (k : Ticked) : Type 0 where
     pub number : k .number ≡ tickNumber r v t (length old)
-    pub bytes : k .bytes ≡ cond (accepted (length old)) (13 * length tickFrames) 0
+    pub bytes : k .bytes ≡ cond (accepted (length old)) (recordSize * length tickFrames) 0
     pub next : k .controller ≡ cond (accepted (length old)) tickNext c
-    pub later : new ≡ cond (accepted (length old)) (recordsOf tickFrames ++ drop (13 * length tickFrames) old) old
+    pub later : new ≡ cond (accepted (length old)) (recordsOf tickFrames ++ drop (recordSize * length tickFrames) old) old

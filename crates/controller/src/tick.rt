@@ -21,10 +21,7 @@ impl Controller {
         let c = figures::summarize(v, t);
         let s = session.tick(x, r, c);
         let q = waiting.answer(x.own, v, t);
-        let charged = ticking::charge(s.frames, buf, 0);
-        let told = ticking::broadcast(x, beat, r, c, buf, charged);
-        let f = q.frame;
-        let bytes = f.send_if(q.due, buf, told);
+        let bytes = ticking::lay(x, beat, r, c, s.frames, q.due, q.frame, buf);
         let moved = self.with_session(s.session);
         let later = moved.with_beat(beat.next());
         Ticked {

@@ -1,6 +1,8 @@
-// What a tick sends, laid into the lent buffer: the session's frames, and the broadcasts where they are due (01, "Session by tick",
-// "Broadcasts and cell answers"). This crate may not know controllers, cell queries or refusals: its caller shows that the buffer has
-// room and that the cells were accepted.
+// What a tick sends, laid into the lent buffer: the session's frames, the broadcasts where they are due, and the cell frame where one is
+// due (01, "Session by tick", "Broadcasts and cell answers"). This crate may not know controllers, cell queries or refusals: its caller
+// shows that the buffer has room and that the cells were accepted.
+ghost use mathlib.Core.Bool.{cond};
+ghost use mathlib.Core.List.{[], _∷_, _++_};
 ghost use Prim.Native.Nat.{_+_, _*_, _≤_};
 ghost use lib.ListN.{length};
 ghost use Rattle.frames.specs.Frame.{recordSize};
@@ -11,12 +13,13 @@ ghost use Rattle.broadcasts.specs.Sendings.{inOrder, broadcastAt};
 use broadcasts::Broadcasts;
 use broadcasts::beat::Beat;
 use cells::Cells;
+use frames::Frame;
 use readings::Readings;
 use session::ChargeFrames;
 use settings::Settings;
 
 // The session's frames: at most three.
-pub fn charge(f: ChargeFrames, buf: &mut [u8], at: usize) -> usize
+fn charge(f: ChargeFrames, buf: &mut [u8], at: usize) -> usize
     requires { ⌜ at + 3 * recordSize ≤ length (now buf) ⌝ }
     ensures { λ r. ⌜ Sent 3 (now (buf .entry)) (now (buf .exit)) at r (frameList f) ⌝ }
 {
@@ -47,7 +50,7 @@ fn five(f: Broadcasts, buf: &mut [u8], at: usize) -> usize
 }
 
 // The broadcasts, where they are due.
-pub fn broadcast(x: Settings, beat: Beat, r: Readings, c: Cells, buf: &mut [u8], at: usize) -> usize
+fn broadcast(x: Settings, beat: Beat, r: Readings, c: Cells, buf: &mut [u8], at: usize) -> usize
     requires { ⌜ (at + 5 * recordSize ≤ length (now buf)) × BoundedCells c ⌝ }
     ensures { λ n. ⌜ Sent 5 (now (buf .entry)) (now (buf .exit)) at n (broadcastAt (beat .tick) (x .own) (x .versions) r c) ⌝ }
 {
@@ -58,4 +61,23 @@ pub fn broadcast(x: Settings, beat: Beat, r: Readings, c: Cells, buf: &mut [u8],
     } else {
         at
     }
+}
+
+// All of them, in their order, from the buffer's start: the bytes that they take.
+pub fn lay(
+    x: Settings,
+    beat: Beat,
+    r: Readings,
+    c: Cells,
+    charged: ChargeFrames,
+    due: bool,
+    cell: Frame,
+    buf: &mut [u8],
+) -> usize
+    requires { ⌜ (9 * recordSize ≤ length (now buf)) × BoundedCells c ⌝ }
+    ensures { λ n. ⌜ Sent 9 (now (buf .entry)) (now (buf .exit)) 0 n (frameList charged ++ (broadcastAt (beat .tick) (x .own) (x .versions) r c ++ cond due (cell ∷ []) [])) ⌝ }
+{
+    let a = charge(charged, buf, 0);
+    let b = broadcast(x, beat, r, c, buf, a);
+    cell.send_if(due, buf, b)
 }
