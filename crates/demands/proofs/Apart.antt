@@ -40,22 +40,22 @@ use Rattle.refusals.specs.Frame.{isIdle, listed, notCan, flagsSet, notForUs, ba
 use Rattle.controller.specs.Frame.{refused, mayCharge, withSession, contentTaken, chargeTo, withQueries, queryTo, messageTo, knownTo, frameTo}
 use Rattle.controller.specs.Tick.{accepted, chargeFrames}
 use Rattle.controller.specs.Start.{freshOf, startWith, startOf}
-use Rattle.demands.specs.Machine.{started, On, paperNext, boxAfter}
-use Rattle.demands.specs.Apart.{Event, Came, Beaten, Wrote, Reread, callOf, accepts, readInto, isRead, after, ended, queryIn, isQuery}
-use Rattle.demands.specs.Apart.{fromStation, reaches, heard, Moment, Told, sentAt, moments, life, Alike}
+use Rattle.demands.specs.Machine.{started, Using, paperNext, boxAfter}
+use Rattle.demands.specs.Apart.{Event, FrameReceived, TickMade, RecordWritten, RecordRead, callOf, accepts, readInto, isRead, after, noSession, queryIn, isQuery}
+use Rattle.demands.specs.Apart.{fromStation, reaches, reaching, Moment, AfterFrame, sentAt, moments, life, Alike}
 
-read-into : (a : SettingsRead) (c : Controller) → started (startWith a) (On c) ≡ On (readInto a c)
+read-into : (a : SettingsRead) (c : Controller) → started (startWith a) (Using c) ≡ Using (readInto a c)
 unfolding started startWith readInto
 read-into (read.Read x) c = refl
 read-into (read.Refused n) c = refl
 
 -- the controller after an event is the machine's
-pub after-is : (c : Controller) (e : Event) → boxAfter paperNext (On c) (callOf e) ≡ On (after c e)
+pub after-is : (c : Controller) (e : Event) → boxAfter paperNext (Using c) (callOf e) ≡ Using (after c e)
 unfolding boxAfter after accepted accepts startOf
-after-is c (Came id s) = refl
-after-is c (Beaten r v t old) = refl
-after-is c (Wrote old) = refl
-after-is c (Reread s) = read-into (readOf s) c
+after-is c (FrameReceived id s) = refl
+after-is c (TickMade r v t old) = refl
+after-is c (RecordWritten old) = refl
+after-is c (RecordRead s) = read-into (readOf s) c
 
 -- ---- a choice by a test
 pub choice : (P : Answer → Type 0) (t : Bool) (a b : Answer) → (t ≡ true → P a) → (t ≡ false → P b) → P (cond t a b)
@@ -115,35 +115,35 @@ module _ (x : Settings) (s : Session) (b d : Beat) (p q : Queries) where
       (choices (Same (isQuery id)) (notForUs (x .own) (partsOf id)) _ _ _ _ (refuses _ 5)
       (choices (Same (isQuery id)) (badSource (x .own) (partsOf id)) _ _ _ _ (refuses _ 6) (knows (partsOf id .source) (recognizedOf (partsOf id .pf)) l))))
 
--- ---- a frame that the session cannot hear leaves it as it was
+-- ---- a frame that cannot reach the session leaves it as it was
 module _ (c : Controller) where
   abbrev Stays : Answer → Type 0
   Stays a = a .controller .session ≡ c .session
 
   -- in a session, whoever may charge is its station
-  may-open : (source : ℕ) → ended c ≡ false → mayCharge c source ≡ true → eqb source (c .session .station) ≡ true
-  unfolding mayCharge ended
+  may-open : (source : ℕ) → noSession c ≡ false → mayCharge c source ≡ true → eqb source (c .session .station) ≡ true
+  unfolding mayCharge noSession
   may-open source o m =
       sym (ap (λ (i : Bool). cond i (listed source (c .settings .stations)) (eqb source (c .session .station))) o) ∙ m
 
-  stays-unheard : (source : ℕ) (r : Recognized) (l : List ℕ) → ended c ≡ false → (eqb source (c .session .station) && not (queryIn r)) ≡ false
+  stays-unreached : (source : ℕ) (r : Recognized) (l : List ℕ) → noSession c ≡ false → (eqb source (c .session .station) && not (queryIn r)) ≡ false
       → Stays (knownTo c source r l)
-  unfolding knownTo messageTo chargeTo mayCharge queryIn queryTo withQueries ended
-  stays-unheard source (recognized.As (message.Charge k)) l o h =
+  unfolding knownTo messageTo chargeTo mayCharge queryIn queryTo withQueries noSession
+  stays-unreached source (recognized.As (message.Charge k)) l o h =
       choice Stays (ltb (length l) (rowOf (message.Charge k) .2)) _ _ (λ t. refl)
       (λ t. choice Stays (mayCharge c source) _ _ (λ m. absurd (false≢true (sym (and-true (eqb source (c .session .station)) h) ∙ may-open source o m))) (λ m. refl))
-  stays-unheard source (recognized.As (message.Query k)) l o h =
+  stays-unreached source (recognized.As (message.Query k)) l o h =
       choice Stays (ltb (length l) (rowOf (message.Query k) .2)) _ _ (λ t. refl) (λ t. refl)
-  stays-unheard source (recognized.Refused n) l o h = refl
+  stays-unreached source (recognized.Refused n) l o h = refl
 
-  unheard-stays : (id : ℕ) (l : List ℕ) → ended c ≡ false → fromStation (c .session .station) id ≡ false → Stays (frameTo c id l)
+  unreached-stays : (id : ℕ) (l : List ℕ) → noSession c ≡ false → fromStation (c .session .station) id ≡ false → Stays (frameTo c id l)
   unfolding frameTo fromStation isQuery
-  unheard-stays id l o h =
+  unreached-stays id l o h =
       choice Stays (notCan id l) _ _ (λ t. refl)
       (λ t. choice Stays (flagsSet (partsOf id)) _ _ (λ t. refl)
       (λ t. choice Stays (notForUs (c .settings .own) (partsOf id)) _ _ (λ t. refl)
       (λ t. choice Stays (badSource (c .settings .own) (partsOf id)) _ _ (λ t. refl)
-      (λ t. stays-unheard (partsOf id .source) (recognizedOf (partsOf id .pf)) l o h))))
+      (λ t. stays-unreached (partsOf id .source) (recognizedOf (partsOf id .pf)) l o h))))
 
 -- ---- an open session keeps its station
 abbrev pub Kept : ℕ → Session → Type 0
@@ -183,7 +183,7 @@ kept-after a s (outcome.Enter st) e h = e
 kept-after a s (outcome.Keep st) e h = e
 kept-after a s outcome.End e h = absurd (false≢true (sym h))
 
-module _ (c : Controller) (o : ended c ≡ false) where
+module _ (c : Controller) (o : noSession c ≡ false) where
   abbrev Keeps : Answer → Type 0
   Keeps a = Kept (c .session .station) (a .controller .session)
 
@@ -223,13 +223,13 @@ module _ (c : Controller) (o : ended c ≡ false) where
 
   pub kept-event : (e : Event) → Kept (c .session .station) (after c e .session)
   unfolding after paperNext
-  kept-event (Came id s) = kept-frame id s
-  kept-event (Beaten r v t old) = kept-choice (c .session .station) (accepts r v t old) (paperNext c r v t) refl (kept-tick (c .settings) r _ (c .session))
-  kept-event (Wrote old) = λ h. refl
-  kept-event (Reread s) = kept-read (readOf s)
+  kept-event (FrameReceived id s) = kept-frame id s
+  kept-event (TickMade r v t old) = kept-choice (c .session .station) (accepts r v t old) (paperNext c r v t) refl (kept-tick (c .settings) r _ (c .session))
+  kept-event (RecordWritten old) = λ h. refl
+  kept-event (RecordRead s) = kept-read (readOf s)
 
-pub kept-open : (c : Controller) (e : Event) → ended c ≡ false → ended (after c e) ≡ false → after c e .session .station ≡ c .session .station
-unfolding ended
+pub kept-open : (c : Controller) (e : Event) → noSession c ≡ false → noSession (after c e) ≡ false → after c e .session .station ≡ c .session .station
+unfolding noSession
 kept-open c e o h = kept-event c o e h
 
 -- a frame never changes the settings
@@ -292,14 +292,14 @@ module _ (c d : Controller) (a : Alike c d) where
 
   pub alike-event : (e : Event) → Alike (after c e) (after d e)
   unfolding after
-  alike-event (Came id s) = same-frame id s .alike
-  alike-event (Beaten r v t old) = alike-choice (accepts r v t old) _ _ (alike-next r v t)
-  alike-event (Wrote old) = a
-  alike-event (Reread s) = alike-read (readOf s)
+  alike-event (FrameReceived id s) = same-frame id s .alike
+  alike-event (TickMade r v t old) = alike-choice (accepts r v t old) _ _ (alike-next r v t)
+  alike-event (RecordWritten old) = a
+  alike-event (RecordRead s) = alike-read (readOf s)
 
   told : (id : ℕ) (l : List ℕ) (t : Bool) → (t ≡ true → isQuery id ≡ false)
-      → cond t (Told (frameTo c id l .number) (frameTo c id l .controller .session) ∷ []) []
-      ≡ cond t (Told (frameTo d id l .number) (frameTo d id l .controller .session) ∷ []) []
+      → cond t (AfterFrame (frameTo c id l .number) (frameTo c id l .controller .session) ∷ []) []
+      ≡ cond t (AfterFrame (frameTo d id l .number) (frameTo d id l .controller .session) ∷ []) []
   told id l true f = rw (same-frame id l .number (f refl), same-frame id l .alike .session)
   told id l false f = refl
 
@@ -309,12 +309,12 @@ module _ (c d : Controller) (a : Alike c d) where
 
   pub same-moments : (e : Event) → moments c e ≡ moments d e
   unfolding moments sentAt
-  same-moments (Came id s) =
+  same-moments (FrameReceived id s) =
       told id s (fromStation (c .session .station) id) (no-query (c .session .station) id)
-      ∙ ap (λ (z : Session). cond (fromStation (z .station) id) (Told (frameTo d id s .number) (frameTo d id s .controller .session) ∷ []) []) (a .session)
-  same-moments (Beaten r v t old) = rw (sent-same r v t, alike-event (Beaten r v t old) .session)
-  same-moments (Wrote old) = refl
-  same-moments (Reread s) = refl
+      ∙ ap (λ (z : Session). cond (fromStation (z .station) id) (AfterFrame (frameTo d id s .number) (frameTo d id s .controller .session) ∷ []) []) (a .session)
+  same-moments (TickMade r v t old) = rw (sent-same r v t, alike-event (TickMade r v t old) .session)
+  same-moments (RecordWritten old) = refl
+  same-moments (RecordRead s) = refl
 
 -- ---- an event that does not reach the session leaves it as it was, and is not seen
 unread : (a : SettingsRead) (c : Controller) → isRead a ≡ false → Alike (readInto a c) c
@@ -322,39 +322,39 @@ unfolding isRead readInto
 unread (read.Read x) c h = absurd (false≢true (sym h))
 unread (read.Refused n) c h = record { settings = refl; session = refl }
 
-pub unreached : (c : Controller) (e : Event) → ended c ≡ false → reaches (c .session .station) e ≡ false → Alike (after c e) c
+pub unreached : (c : Controller) (e : Event) → noSession c ≡ false → reaches (c .session .station) e ≡ false → Alike (after c e) c
 unfolding after reaches
-unreached c (Came id s) o h = record { settings = kept-settings c id s; session = unheard-stays c id s o h }
-unreached c (Beaten r v t old) o h = absurd (false≢true (sym h))
-unreached c (Wrote old) o h = record { settings = refl; session = refl }
-unreached c (Reread s) o h = unread (readOf s) c h
+unreached c (FrameReceived id s) o h = record { settings = kept-settings c id s; session = unreached-stays c id s o h }
+unreached c (TickMade r v t old) o h = absurd (false≢true (sym h))
+unreached c (RecordWritten old) o h = record { settings = refl; session = refl }
+unreached c (RecordRead s) o h = unread (readOf s) c h
 
 unseen : (c : Controller) (e : Event) → reaches (c .session .station) e ≡ false → moments c e ≡ []
 unfolding moments reaches
-unseen c (Came id s) h = rw h
-unseen c (Beaten r v t old) h = absurd (false≢true (sym h))
-unseen c (Wrote old) h = refl
-unseen c (Reread s) h = rw h
+unseen c (FrameReceived id s) h = rw h
+unseen c (TickMade r v t old) h = absurd (false≢true (sym h))
+unseen c (RecordWritten old) h = refl
+unseen c (RecordRead s) h = rw h
 
--- ---- a session's life over the events is its life over those that it can hear
+-- ---- a session's life over the events is its life over those that can reach it
 -- the rest of a life, as long as there is a session
 rest : Controller → List Event → List Moment
-rest c es = cond (ended c) [] (life c es)
+rest c es = cond (noSession c) [] (life c es)
 
-rest-open : (c : Controller) (es : List Event) → ended c ≡ false → rest c es ≡ life c es
+rest-open : (c : Controller) (es : List Event) → noSession c ≡ false → rest c es ≡ life c es
 unfolding rest
 rest-open c es o = rw o
 
-pub same-ended : (c d : Controller) → Alike c d → ended c ≡ ended d
-unfolding ended
-same-ended c d a = rw (a .session)
+pub same-noSession : (c d : Controller) → Alike c d → noSession c ≡ noSession d
+unfolding noSession
+same-noSession c d a = rw (a .session)
 
-after-both : (c d : Controller) (es fs : List Event) → Alike c d → (ended c ≡ false → life c es ≡ life d fs) → rest c es ≡ rest d fs
+after-both : (c d : Controller) (es fs : List Event) → Alike c d → (noSession c ≡ false → life c es ≡ life d fs) → rest c es ≡ rest d fs
 unfolding rest
 after-both c d es fs a f =
-    both (ended c) refl ∙ ap (λ (t : Bool). cond t [] (life d fs)) (same-ended c d a)
+    both (noSession c) refl ∙ ap (λ (t : Bool). cond t [] (life d fs)) (same-noSession c d a)
   where
-    both : (t : Bool) → ended c ≡ t → cond t [] (life c es) ≡ cond t [] (life d fs)
+    both : (t : Bool) → noSession c ≡ t → cond t [] (life c es) ≡ cond t [] (life d fs)
     both true e = refl
     both false e = f e
 
@@ -365,35 +365,35 @@ pub then : (c d e : Controller) → Alike c d → Alike d e → Alike c e
 then c d e a b = record { settings = a .settings ∙ b .settings; session = a .session ∙ b .session }
 
 Alone : ℕ → List Event → Type 0
-Alone st es = (c d : Controller) → Alike c d → c .session .station ≡ st → ended c ≡ false → life c es ≡ life d (heard st es)
+Alone st es = (c d : Controller) → Alike c d → c .session .station ≡ st → noSession c ≡ false → life c es ≡ life d (reaching st es)
 
-one-more : (st : ℕ) (e : Event) (es : List Event) → Alone st es → (c d : Controller) → Alike c d → c .session .station ≡ st → ended c ≡ false
-    → (t : Bool) → reaches st e ≡ t → moments c e ++ rest (after c e) es ≡ life d (cond t (e ∷ heard st es) (heard st es))
+one-more : (st : ℕ) (e : Event) (es : List Event) → Alone st es → (c d : Controller) → Alike c d → c .session .station ≡ st → noSession c ≡ false
+    → (t : Bool) → reaches st e ≡ t → moments c e ++ rest (after c e) es ≡ life d (cond t (e ∷ reaching st es) (reaching st es))
 unfolding Alone life rest
 one-more st e es ih c d a k o true h =
     ap (λ (m : List Moment). m ++ rest (after c e) es) (same-moments c d a e)
     ∙ ap (λ (l : List Moment). moments d e ++ l)
-    (after-both (after c e) (after d e) es (heard st es) (alike-event c d a e)
+    (after-both (after c e) (after d e) es (reaching st es) (alike-event c d a e)
     (λ p. ih (after c e) (after d e) (alike-event c d a e) (kept-open c e o p ∙ k) p))
 one-more st e es ih c d a k o false h =
     let u : Alike (after c e) c = unreached c e o (ap (λ (z : ℕ). reaches z e) k ∙ h) in
-    let p : ended (after c e) ≡ false = same-ended (after c e) c u ∙ o in
+    let p : noSession (after c e) ≡ false = same-noSession (after c e) c u ∙ o in
     ap (λ (m : List Moment). m ++ rest (after c e) es) (unseen c e (ap (λ (z : ℕ). reaches z e) k ∙ h))
     ∙ (rest-open (after c e) es p
     ∙ ih (after c e) d (then (after c e) c d u a) (ap (λ (z : Session). z .station) (u .session) ∙ k) p)
 
 alone : (st : ℕ) (es : List Event) → Alone st es
-unfolding Alone life heard rest
+unfolding Alone life reaching rest
 alone st [] c d a k o = refl
 alone st (e ∷ es) c d a k o = one-more st e es (alone st es) c d a k o (reaches st e) refl
 
--- two controllers with the same settings and the same open session, and two lists of events in which the session can hear the same: the
+-- two controllers with the same settings and the same open session, and two lists of events by which the same reaches the session: the
 -- session ends at the same place in both or in neither, and everything that is seen of it up to there agrees
-pub undisturbed : (c d : Controller) (ks ls : List Event) → ended c ≡ false → Alike c d
-    → heard (c .session .station) ks ≡ heard (c .session .station) ls → life c ks ≡ life d ls
+pub undisturbed : (c d : Controller) (ks ls : List Event) → noSession c ≡ false → Alike c d
+    → reaching (c .session .station) ks ≡ reaching (c .session .station) ls → life c ks ≡ life d ls
 unfolding Alone
 undisturbed c d ks ls o a h =
     alone (c .session .station) ks c c (record { settings = refl; session = refl }) refl o
     ∙ (ap (life c) h
     ∙ sym (alone (c .session .station) ls d c (back c d a) (ap (λ (z : Session). z .station) (sym (a .session)))
-    (sym (same-ended c d a) ∙ o)))
+    (sym (same-noSession c d a) ∙ o)))

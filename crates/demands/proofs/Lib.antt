@@ -8,8 +8,8 @@ pub mod Messages
 pub mod Gone
 pub mod Ends
 pub mod Over
-pub mod Asked
-pub mod Turned
+pub mod Requests
+pub mod Reasons
 pub mod Stops
 pub mod Apart
 pub mod Silent

@@ -16,7 +16,7 @@ use Rattle.session.specs.declared.Session.{Session}
 use Rattle.session.specs.Message.{sessionAfter}
 use Rattle.refusals.specs.Frame.{isIdle}
 use Rattle.demands.specs.Kinds.{isCharging, isStopping}
-use Rattle.demands.specs.Ends.{endsBy, leavesBy}
+use Rattle.demands.specs.Ends.{messageEnds, messageLeaves}
 use Rattle.demands.proofs.Came.{same}
 
 abbrev pub mk : ℕ → ℕ → ℕ → State → Session
@@ -36,8 +36,8 @@ module _ (x : Settings) (source a b n : ℕ) where
   and-false true = refl
   and-false false = refl
 
-  pub ends-message : (st : State) (m : ChargeMessage) → isIdle st ≡ false → idleAfter st (outcomeOf x st n m) ≡ endsBy st n m
-  unfolding isIdle isStopping endsBy sessionAfter outcomeOf inOffered inUnverified inParameters inReady readyOf crmOf inCharging inStopping inError
+  pub ends-message : (st : State) (m : ChargeMessage) → isIdle st ≡ false → idleAfter st (outcomeOf x st n m) ≡ messageEnds st n m
+  unfolding isIdle isStopping messageEnds sessionAfter outcomeOf inOffered inUnverified inParameters inReady readyOf crmOf inCharging inStopping inError
   ends-message Idle m h = absurd (false≢true (sym h))
   ends-message Offered Cim h = refl
   ends-message Offered (Cvm v) h = same (idleAfter Offered) (ltb 0 n) (same (idleAfter Offered) v refl refl) refl
@@ -98,8 +98,8 @@ module _ (x : Settings) (source a b n : ℕ) where
   ccs-after st true u w h i = h
   ccs-after st false u w h i = i
 
-  pub leaves-message : (st : State) (m : ChargeMessage) → isCharging st ≡ true → chargingAfter st (outcomeOf x st n m) ≡ not (leavesBy m)
-  unfolding isCharging leavesBy sessionAfter outcomeOf inCharging
+  pub leaves-message : (st : State) (m : ChargeMessage) → isCharging st ≡ true → chargingAfter st (outcomeOf x st n m) ≡ not (messageLeaves m)
+  unfolding isCharging messageLeaves sessionAfter outcomeOf inCharging
   leaves-message Idle m h = absurd (false≢true h)
   leaves-message Offered m h = absurd (false≢true h)
   leaves-message Unverified m h = absurd (false≢true h)

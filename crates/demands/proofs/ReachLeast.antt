@@ -46,9 +46,9 @@ use Rattle.controller.specs.declared.Controller.{Controller}
 use Rattle.controller.specs.declared.Answer.{Answer}
 use Rattle.controller.specs.Frame.{withSession, frameTo}
 use Rattle.demands.specs.Machine.{paperNext}
-use Rattle.demands.specs.Apart.{Event, Came, Beaten, Wrote, Reread, accepts, readInto, after, afterAll}
+use Rattle.demands.specs.Apart.{Event, FrameReceived, TickMade, RecordWritten, RecordRead, accepts, readInto, after, afterAll}
 use Rattle.demands.specs.Kinds.{isCharging}
-use Rattle.demands.specs.Silent.{ticked, ticksIn}
+use Rattle.demands.specs.Silent.{isAcceptedTick, ticksIn}
 use Rattle.demands.proofs.Came.{Comes, Unmoved, Took, came}
 use Rattle.demands.proofs.Messages.{mk}
 
@@ -310,18 +310,18 @@ unfolding readInto freshOf needed needs
 read-needs (read.Read x) c = omega arith
 read-needs (read.Refused n) c = omega arith
 
-event-needs : (c : Controller) (e : Event) → needed (after c e .session) ≤ needed (c .session) + cond (ticked e) 1 0
-unfolding after ticked
-event-needs c (Came id s) =
+event-needs : (c : Controller) (e : Event) → needed (after c e .session) ≤ needed (c .session) + cond (isAcceptedTick e) 1 0
+unfolding after isAcceptedTick
+event-needs c (FrameReceived id s) =
     let h : needed (frameTo c id s .controller .session) ≤ needed (c .session) = frame-needs c id s (frameTo c id s) (came c id s) in
     omega (arith, h)
-event-needs c (Beaten r v t old) = go (accepts r v t old)
+event-needs c (TickMade r v t old) = go (accepts r v t old)
   where
     go : (f : Bool) → needed (cond f (paperNext c r v t) c .session) ≤ needed (c .session) + cond f 1 0
     go true = paper-needs c r v t
     go false = omega arith
-event-needs c (Wrote old) = omega arith
-event-needs c (Reread s) = read-needs (readOf s) c
+event-needs c (RecordWritten old) = omega arith
+event-needs c (RecordRead s) = read-needs (readOf s) c
 
 run-needs : (c : Controller) (es : List Event) → needed (afterAll c es .session) ≤ needed (c .session) + ticksIn es
 unfolding afterAll ticksIn

@@ -16,8 +16,8 @@ use Rattle.charge_messages.specs.Content.{contentOf}
 use Rattle.outcomes.specs.Offer.{acceptedOf}
 use Rattle.controller.specs.Start.{freshOf}
 use Rattle.refusals.specs.Frame.{notCan, flagsSet, notForUs, badSource, listed}
-use Rattle.demands.specs.Apart.{Event, Came, Beaten, afterAll, isQuery, queryIn, fromStation, reaches, heard}
-use Rattle.demands.specs.Silent.{ticked, ticksIn}
+use Rattle.demands.specs.Apart.{Event, FrameReceived, TickMade, afterAll, isQuery, queryIn, fromStation, reaches, reaching}
+use Rattle.demands.specs.Silent.{isAcceptedTick, ticksIn}
 use Rattle.demands.specs.Says.{Says}
 use Rattle.demands.specs.Reach.{chargingWith, Stretch, UntilCvm, UntilVerified, UntilCmp, UntilCrm, besides}
 use Rattle.demands.specs.Reach.{Passing, Follows, Passes, Ticks, Speaks, Delays, VerifiesLater, Verifies, Offers, Starts}
@@ -101,28 +101,28 @@ says-crm-aa = record { can = refl; flags = refl; target = refl; other = refl; so
 
 -- ---- the events
 abbrev cim : Event
-cim = Came 0x1826_f456 cimData
+cim = FrameReceived 0x1826_f456 cimData
 
 abbrev cvm-aa : Event
-cvm-aa = Came 0x1801_f456 (0xaa ∷ [])
+cvm-aa = FrameReceived 0x1801_f456 (0xaa ∷ [])
 
 abbrev cvm-00 : Event
-cvm-00 = Came 0x1801_f456 (0x00 ∷ [])
+cvm-00 = FrameReceived 0x1801_f456 (0x00 ∷ [])
 
 abbrev cmp : Event
-cmp = Came 0x1808_f456 cmpData
+cmp = FrameReceived 0x1808_f456 cmpData
 
 abbrev low-cmp : Event
-low-cmp = Came 0x1808_f456 lowData
+low-cmp = FrameReceived 0x1808_f456 lowData
 
 abbrev crm-ff : Event
-crm-ff = Came 0x180a_f456 (0xff ∷ [])
+crm-ff = FrameReceived 0x180a_f456 (0xff ∷ [])
 
 abbrev crm-aa : Event
-crm-aa = Came 0x180a_f456 (0xaa ∷ [])
+crm-aa = FrameReceived 0x180a_f456 (0xaa ∷ [])
 
 abbrev tick : Event
-tick = Beaten quietReadings (330 ∷ []) (pos 20 ∷ []) (zeros 117)
+tick = TickMade quietReadings (330 ∷ []) (pos 20 ∷ []) (zeros 117)
 
 -- after the CIM that opened the session: eight ticks
 pub eight : List Event
@@ -131,8 +131,8 @@ eight = tick ∷ cvm-aa ∷ tick ∷ tick ∷ tick ∷ tick ∷ tick ∷ tick �
 on : (k : Stretch) (n b : ℕ) (es : List Event) → b < 200 → Follows ours 0x56 offer k (n + 1) (b + 1) es → Follows ours 0x56 offer k n b (tick ∷ es)
 on k n b es l f = Ticks {b = b} (such-a-tick .0) (such-a-tick .1) (omega (arith, l)) f
 
-follows-eight : Follows ours 0x56 offer UntilCvm 0 0 (heard 0x56 eight)
-unfolding eight heard reaches fromStation isQuery queryIn partsOf
+follows-eight : Follows ours 0x56 offer UntilCvm 0 0 (reaching 0x56 eight)
+unfolding eight reaching reaches fromStation isQuery queryIn partsOf
 follows-eight =
     on UntilCvm 0 0 _ (omega arith)
     (Verifies says-cvm-aa (omega arith)
@@ -145,29 +145,29 @@ follows-eight =
     (Offers says-cmp yes-rule (omega arith) (on UntilCrm 0 0 _ (omega arith) (Starts says-crm-aa (omega arith)))))))))))
 
 -- from a fresh controller, by the CIM and what follows
-charges : (es : List Event) → Follows ours 0x56 offer UntilCvm 0 0 (heard 0x56 es)
+charges : (es : List Event) → Follows ours 0x56 offer UntilCvm 0 0 (reaching 0x56 es)
     → afterAll (freshOf ours) (cim ∷ es) .session ≡ chargingWith ours 0x56 offer
 unfolding freshOf
 charges es f = from-cim-to-charging (freshOf ours) 0x56 0x1826_f456 cimData offer es refl is-listed says-cim f
 
 -- eight accepted ticks are enough, and fewer never are (`no-sooner`, proofs/ReachLeast.antt)
 pub eight-are-enough : (ticksIn (cim ∷ eight) ≡ 8) × (afterAll (freshOf ours) (cim ∷ eight) .session ≡ chargingWith ours 0x56 offer)
-unfolding eight ticksIn ticked
+unfolding eight ticksIn isAcceptedTick
 eight-are-enough = (rw (such-a-tick .0), charges eight follows-eight)
 
 -- ---- a station that repeats itself, and others on the bus
 -- another listed station's CIM and CEM; the station's own cell query, and its CST to another address, 55
 abbrev cim-57 : Event
-cim-57 = Came 0x1826_f457 cimData
+cim-57 = FrameReceived 0x1826_f457 cimData
 
 abbrev cem-57 : Event
-cem-57 = Came 0x181f_f457 (0x00 ∷ 0x00 ∷ 0xaa ∷ [])
+cem-57 = FrameReceived 0x181f_f457 (0x00 ∷ 0x00 ∷ 0xaa ∷ [])
 
 abbrev query : Event
-query = Came 0x181b_f456 (zeros 8)
+query = FrameReceived 0x181b_f456 (zeros 8)
 
 abbrev cst-to-55 : Event
-cst-to-55 = Came 0x1816_5556 (0x00 ∷ 0x00 ∷ 0xaa ∷ [])
+cst-to-55 = FrameReceived 0x1816_5556 (0x00 ∷ 0x00 ∷ 0xaa ∷ [])
 
 -- from the opening CIM on: a CVM AA before any EIM; CVM 00, and 00 again before AA; CRM AA and CMP before their time; a CMP that the yes rule does
 -- not accept; then the last CMP, CRM AA before its ERM, CRM FF, and the CRM AA that counts
@@ -187,7 +187,7 @@ cst-passes : Passing ours 0x56 cst-to-55
 unfolding Passing notForUs partsOf
 cst-passes m h = absurd (false≢true (sym (h .target)))
 
--- what the session hears of it
+-- what of it reaches the session
 follows-crm : Follows ours 0x56 offer UntilCrm 0 0 (crm-aa ∷ tick ∷ crm-ff ∷ cst-to-55 ∷ tick ∷ crm-aa ∷ [])
 unfolding besides
 follows-crm =
@@ -212,8 +212,8 @@ follows-cmp =
     (Speaks says-low refl
     (on UntilCmp 6 0 _ (omega arith) (Speaks says-crm-ff refl (Offers says-cmp yes-rule (omega arith) follows-crm))))))))))))
 
-follows-busy : Follows ours 0x56 offer UntilCvm 0 0 (heard 0x56 busy)
-unfolding busy heard reaches fromStation isQuery queryIn partsOf besides
+follows-busy : Follows ours 0x56 offer UntilCvm 0 0 (reaching 0x56 busy)
+unfolding busy reaching reaches fromStation isQuery queryIn partsOf besides
 follows-busy =
     Speaks says-cvm-aa refl
     (Speaks says-cim refl

@@ -71,7 +71,7 @@ not-both true e h = h
 not-both false e h = e
 
 module _ (x : Settings) (a : ℕ) (o : Offer) where
-  -- ---- a message besides: the session is in the stretch, and its station was heard just now
+  -- ---- a message besides: the session is in the stretch, and its station was heeded just now
   pub record Word (k : Stretch) (n : ℕ) (z : Session) : Type 0 where
     pub state : State
     pub count : ℕ

@@ -39,12 +39,12 @@ use Rattle.refusals.specs.Frame.{isIdle}
 use Rattle.controller.specs.Frame.{frameTo}
 use Rattle.refusals.specs.Tick.{tickNumber}
 use Rattle.demands.specs.Machine.{paperNext}
-use Rattle.demands.specs.Apart.{Event, Came, Beaten, Wrote, Reread, accepts, readInto, after, ended, fromStation}
-use Rattle.demands.specs.Silent.{Unheard, Silence, quietAt, sendsNothing, ticked, ticksIn, endsWithin, repeated, EndsBy, longest}
+use Rattle.demands.specs.Apart.{Event, FrameReceived, TickMade, RecordWritten, RecordRead, accepts, readInto, after, noSession, fromStation}
+use Rattle.demands.specs.Silent.{Unheeded, Silence, quietAt, sendsNothing, isAcceptedTick, ticksIn, endsWithin, repeated, EndsBy, longest}
 use Rattle.demands.proofs.Tests.{or-false}
 use Rattle.demands.proofs.Messages.{mk}
 use Rattle.demands.proofs.Apart.{kept-open}
-use Rattle.demands.proofs.SilentFrames.{unheard-kept, still-unheard}
+use Rattle.demands.proofs.SilentFrames.{unheeded-kept, still-unheeded}
 
 -- the ticks that a silent session has left, at most
 leftIn : State → ℕ → ℕ → ℕ
@@ -192,13 +192,13 @@ module _ (x : Settings) (r : Readings) (c : Cells) (s : Session) where
   falls o = falls-in (s .state) o
 
 -- ---- over a list of events
-quiet-unheard : (t : Bool) → not t ≡ true → t ≡ false
-quiet-unheard true h = absurd (false≢true h)
-quiet-unheard false h = refl
+quiet-unheeded : (t : Bool) → not t ≡ true → t ≡ false
+quiet-unheeded true h = absurd (false≢true h)
+quiet-unheeded false h = refl
 
-tick-falls : (c : Controller) (r : Readings) (v : List ℕ) (t : List ℤ) (b : Bool) → ended c ≡ false
+tick-falls : (c : Controller) (r : Readings) (v : List ℕ) (t : List ℤ) (b : Bool) → noSession c ≡ false
     → cond b 1 0 + left (cond b (paperNext c r v t) c .session) ≤ left (c .session)
-unfolding paperNext ended
+unfolding paperNext noSession
 tick-falls c r v t true o = let f : left (paperNext c r v t .session) < left (c .session) = falls (c .settings) r (cellsOf v t) (c .session) o in omega arith
 tick-falls c r v t false o = omega arith
 
@@ -207,19 +207,19 @@ unfolding readInto freshOf left leftIn
 read-falls (read.Read x) c = omega arith
 read-falls (read.Refused n) c = omega arith
 
--- one event by which the station is unheard: if an accepted tick, less is left, else no more
-event-falls : (c : Controller) (e : Event) → ended c ≡ false → Unheard c e → cond (ticked e) 1 0 + left (after c e .session) ≤ left (c .session)
-unfolding ticked after
-event-falls c (Came id s) o u = same (frameTo c id s .controller .session) (unheard-kept c id s o u)
+-- one event by which nothing is said that is heeded: if an accepted tick, less is left, else no more
+event-falls : (c : Controller) (e : Event) → noSession c ≡ false → Unheeded c e → cond (isAcceptedTick e) 1 0 + left (after c e .session) ≤ left (c .session)
+unfolding isAcceptedTick after
+event-falls c (FrameReceived id s) o u = same (frameTo c id s .controller .session) (unheeded-kept c id s o u)
   where
     same : (z : Session) → z ≡ c .session → 0 + left z ≤ left (c .session)
     same z h = subst (λ (y : Session). 0 + left z ≤ left y) h (omega arith)
-event-falls c (Beaten r v t old) o u = tick-falls c r v t (accepts r v t old) o
-event-falls c (Wrote old) o u = omega arith
-event-falls c (Reread s) o u = read-falls (readOf s) c
+event-falls c (TickMade r v t old) o u = tick-falls c r v t (accepts r v t old) o
+event-falls c (RecordWritten old) o u = omega arith
+event-falls c (RecordRead s) o u = read-falls (readOf s) c
 
-some-left : (c : Controller) → ended c ≡ false → 0 < left (c .session)
-unfolding ended left
+some-left : (c : Controller) → noSession c ≡ false → 0 < left (c .session)
+unfolding noSession left
 some-left c o = some (c .session .state) (c .session .silence) (c .session .count) o
 
 either : (t b : Bool) → (t ≡ false → b ≡ true) → (t || b) ≡ true
@@ -232,9 +232,9 @@ none-left false f = f refl
 
 spent : (es : List Event) (c : Controller) → Silence c es → left (c .session) ≤ ticksIn es → endsWithin c es ≡ true
 unfolding endsWithin ticksIn Silence
-spent [] c q h = none-left (ended c) (λ o. absurd (omega (arith, some-left c o)))
+spent [] c q h = none-left (noSession c) (λ o. absurd (omega (arith, some-left c o)))
 spent (e ∷ es) c q h =
-    either (ended c) (endsWithin (after c e) es)
+    either (noSession c) (endsWithin (after c e) es)
     (λ o. spent es (after c e) (q o .1) (omega (arith, event-falls c e o (q o .0))))
 
 -- a session whose station falls silent ends within 801 accepted ticks
@@ -243,14 +243,14 @@ unfolding left
 within-801 c es q h = spent es c q (omega (arith, most (c .session .state) (c .session .silence) (c .session .count)))
 
 -- ---- a station that sends nothing is silent
-still-event : (c : Controller) (e : Event) → quietAt (c .session .station) e ≡ true → Unheard c e
-unfolding quietAt Unheard
-still-event c (Came id s) q = still-unheard c id s (quiet-unheard (fromStation (c .session .station) id) q)
-still-event c (Beaten r v t old) q = tt
-still-event c (Wrote old) q = tt
-still-event c (Reread s) q = tt
+still-event : (c : Controller) (e : Event) → quietAt (c .session .station) e ≡ true → Unheeded c e
+unfolding quietAt Unheeded
+still-event c (FrameReceived id s) q = still-unheeded c id s (quiet-unheeded (fromStation (c .session .station) id) q)
+still-event c (TickMade r v t old) q = tt
+still-event c (RecordWritten old) q = tt
+still-event c (RecordRead s) q = tt
 
-still : (st : ℕ) (es : List Event) (c : Controller) → (ended c ≡ false → c .session .station ≡ st) → sendsNothing st es ≡ true → Silence c es
+still : (st : ℕ) (es : List Event) (c : Controller) → (noSession c ≡ false → c .session .station ≡ st) → sendsNothing st es ≡ true → Silence c es
 unfolding sendsNothing Silence
 still st [] c k q = tt
 still st (e ∷ es) c k q = λ o. (
@@ -278,25 +278,25 @@ module _ (x : Settings) (r : Readings) (c : Cells) (a b n : ℕ) where
 
 module _ (r : Readings) (v : List ℕ) (t : List ℤ) (old : List ℕ) (taken : accepts r v t old ≡ true) (wants : wantedOf r ≡ true) where
   abbrev beat : Event
-  beat = Beaten r v t old
+  beat = TickMade r v t old
 
   ticks : (c : Controller) (s : Session) → c .session ≡ s → after c beat .session ≡ literalTick (c .settings) r (cellsOf v t) s
   unfolding after paperNext
   ticks c s h = rw (taken, h)
 
-  open-error : (c : Controller) (a b n : ℕ) → c .session ≡ mk a b n Error → ended c ≡ false
-  unfolding ended isIdle
+  open-error : (c : Controller) (a b n : ℕ) → c .session ≡ mk a b n Error → noSession c ≡ false
+  unfolding noSession isIdle
   open-error c a b n h = rw h
 
-  open-offered : (c : Controller) (a b n : ℕ) → c .session ≡ mk a b n Offered → ended c ≡ false
-  unfolding ended isIdle
+  open-offered : (c : Controller) (a b n : ℕ) → c .session ≡ mk a b n Offered → noSession c ≡ false
+  unfolding noSession isIdle
   open-offered c a b n h = rw h
 
   lives-error : (k : ℕ) (c : Controller) (a b n : ℕ) → c .session ≡ mk a b n Error → n + k ≤ 600 → endsWithin c (repeated k beat) ≡ false
   unfolding endsWithin repeated
   lives-error zero c a b n h l = open-error c a b n h
   lives-error (suc k) c a b n h l =
-      or-false (ended c) _ (open-error c a b n h)
+      or-false (noSession c) _ (open-error c a b n h)
       (lives-error k (after c beat) a b (n + 1)
       (ticks c (mk a b n Error) h ∙ error-tick (c .settings) r (cellsOf v t) a b n (lt-leb 600 n (omega arith))) (omega arith))
 
@@ -304,7 +304,7 @@ module _ (r : Readings) (v : List ℕ) (t : List ℤ) (old : List ℕ) (taken : 
   unfolding endsWithin repeated
   lives-offered zero c a b n h l g = open-offered c a b n h
   lives-offered (suc k) c a b n h l g =
-      or-false (ended c) _ (open-offered c a b n h)
+      or-false (noSession c) _ (open-offered c a b n h)
       (go (leb 200 b) refl (λ p m q. lives-offered k (after c beat) a (b + 1) (n + 1) p m q))
     where
       go : (f : Bool) → leb 200 b ≡ f
@@ -316,7 +316,7 @@ module _ (r : Readings) (v : List ℕ) (t : List ℤ) (old : List ℕ) (taken : 
       go false e ih =
           ih (ticks c (mk a b n Offered) h ∙ offered-tick (c .settings) r (cellsOf v t) a b n e wants) (omega (arith, leb-false 200 b e)) (omega arith)
 
-  -- an Offered session that has just heard its station lives through 800 accepted ticks that want charge
+  -- an Offered session that has just heeded its station lives through 800 accepted ticks that want charge
   pub not-within-800 : (c : Controller) (a n : ℕ) → c .session ≡ mk a 0 n Offered → endsWithin c (repeated 800 beat) ≡ false
   not-within-800 c a n h = lives-offered 800 c a 0 n h (omega arith) (omega arith)
 

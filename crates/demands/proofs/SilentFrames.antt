@@ -1,5 +1,5 @@
 -- What a session heeds is `feeds`, no more and no less: a charge message that does not feed it is refused and leaves it as it was, one that does
--- returns its silence to 0. So a frame by which its station is unheard leaves the session as it was. Assumes nothing.
+-- returns its silence to 0. So a frame by which its station says nothing that is heeded leaves the session as it was. Assumes nothing.
 use Prim.Native.Nat.{ℕ}
 use mathlib.Core.Path.{_≡_, refl, ap, sym, subst, _∙_}
 use mathlib.Core.Bool.{Bool, true, false, _&&_, false≢true}
@@ -21,10 +21,10 @@ use Rattle.session.specs.Message.{sessionAfter, appliedOf, messageOf}
 use Rattle.controller.specs.declared.Controller.{Controller}
 use Rattle.refusals.specs.Frame.{isIdle}
 use Rattle.controller.specs.Frame.{frameTo}
-use Rattle.demands.specs.Apart.{Came, ended, queryIn, isQuery, fromStation}
+use Rattle.demands.specs.Apart.{FrameReceived, noSession, queryIn, isQuery, fromStation}
 use Rattle.demands.specs.Says.{Says}
 use Rattle.demands.specs.Kinds.{isStopping}
-use Rattle.demands.specs.Silent.{feeds, Unheard}
+use Rattle.demands.specs.Silent.{feeds, Unheeded}
 use Rattle.demands.proofs.Came.{same}
 use Rattle.demands.proofs.ReachFrames.{frame-says, Spoken, Unsaid, Said, spoken}
 
@@ -154,24 +154,24 @@ module _ (x : Settings) (source : ℕ) (s : Session) (n : ℕ) where
 
 -- ---- over frames
 -- what the station says in vain leaves the session as it was
-said-in-vain : (c : Controller) (m : ChargeMessage) (id : ℕ) (s : List ℕ) → ended c ≡ false → Says (c .settings) (c .session .station) m id s
+said-in-vain : (c : Controller) (m : ChargeMessage) (id : ℕ) (s : List ℕ) → noSession c ≡ false → Says (c .settings) (c .session .station) m id s
     → feeds (c .session .state) m ≡ false → frameTo c id s .controller .session ≡ c .session
-unfolding ended messageOf appliedOf sessionAfter
+unfolding noSession messageOf appliedOf sessionAfter
 said-in-vain c m id s o says h =
     frame-says c m id s says o
     ∙ ap (sessionAfter (c .session .station) (c .session))
     (unfed-refused (c .settings) (c .session .station) (c .session) (c .session .count) (c .session .state) m o h)
 
-unheard-spoken : (c : Controller) (id : ℕ) (s : List ℕ) → ended c ≡ false → Unheard c (Came id s) → Spoken c id s (frameTo c id s)
+unheeded-spoken : (c : Controller) (id : ℕ) (s : List ℕ) → noSession c ≡ false → Unheeded c (FrameReceived id s) → Spoken c id s (frameTo c id s)
     → frameTo c id s .controller .session ≡ c .session
-unfolding Unheard
-unheard-spoken c id s o u (Unsaid k) = k
-unheard-spoken c id s o u (Said m says) = said-in-vain c m id s o says (u m says)
+unfolding Unheeded
+unheeded-spoken c id s o u (Unsaid k) = k
+unheeded-spoken c id s o u (Said m says) = said-in-vain c m id s o says (u m says)
 
--- a frame by which its station is unheard leaves an open session as it was
-pub unheard-kept : (c : Controller) (id : ℕ) (s : List ℕ) → ended c ≡ false → Unheard c (Came id s)
+-- a frame by which its station says nothing that is heeded leaves an open session as it was
+pub unheeded-kept : (c : Controller) (id : ℕ) (s : List ℕ) → noSession c ≡ false → Unheeded c (FrameReceived id s)
     → frameTo c id s .controller .session ≡ c .session
-unheard-kept c id s o u = unheard-spoken c id s o u (spoken c id s o)
+unheeded-kept c id s o u = unheeded-spoken c id s o u (spoken c id s o)
 
 -- ---- a station that sends nothing
 -- by what it says the station is the source of a frame, and the frame is no query
@@ -179,6 +179,6 @@ says-from : (x : Settings) (st : ℕ) (m : ChargeMessage) (id : ℕ) (s : List �
 unfolding fromStation isQuery queryIn
 says-from x st m id s h = rw (h .source, eq-eqb st st refl, h .pf)
 
-pub still-unheard : (c : Controller) (id : ℕ) (s : List ℕ) → fromStation (c .session .station) id ≡ false → Unheard c (Came id s)
-unfolding Unheard
-still-unheard c id s h m says = absurd (false≢true (sym h ∙ says-from (c .settings) (c .session .station) m id s says))
+pub still-unheeded : (c : Controller) (id : ℕ) (s : List ℕ) → fromStation (c .session .station) id ≡ false → Unheeded c (FrameReceived id s)
+unfolding Unheeded
+still-unheeded c id s h m says = absurd (false≢true (sym h ∙ says-from (c .settings) (c .session .station) m id s says))

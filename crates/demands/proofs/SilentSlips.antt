@@ -33,12 +33,12 @@ use Rattle.literal.specs.Literal.{older, grown, counted, literalIn, literalAdva
 use Rattle.controller.specs.declared.Controller.{Controller}
 use Rattle.demands.specs.Machine.{paperNext}
 use Rattle.refusals.specs.Frame.{isIdle}
-use Rattle.demands.specs.Apart.{Event, Came, Beaten, Wrote, Reread, accepts, readInto, after, ended}
+use Rattle.demands.specs.Apart.{Event, FrameReceived, TickMade, RecordWritten, RecordRead, accepts, readInto, after, noSession}
 use Rattle.demands.specs.Says.{Says}
-use Rattle.demands.specs.Silent.{feeds, Unheard, Silence, ticksIn, endsWithin, longest}
+use Rattle.demands.specs.Silent.{feeds, Unheeded, Silence, ticksIn, endsWithin, longest}
 use Rattle.demands.specs.SilentSlips.{isCim, isHandshake, SaysOnly}
 use Rattle.demands.proofs.Apart.{kept-open, kept-settings}
-use Rattle.demands.proofs.SilentFrames.{unheard-kept}
+use Rattle.demands.proofs.SilentFrames.{unheeded-kept}
 use Rattle.demands.proofs.Silent.{within-801}
 
 either : (P : Turn → Type 0) (t : Bool) {a b : Turn} → P a → P b → P (cond t a b)
@@ -113,24 +113,24 @@ module _ (among : State → Bool) (these : ChargeMessage → Bool)
   -- ---- over events
   record Deaf (x : Settings) (st : ℕ) (c : Controller) : Type 0 where
     settings : c .settings ≡ x
-    station : ended c ≡ false → c .session .station ≡ st
+    station : noSession c ≡ false → c .session .station ≡ st
     state : among (c .session .state) ≡ true
 
-  unheard-frame : (x : Settings) (st : ℕ) (c : Controller) (id : ℕ) (s : List ℕ) → Deaf x st c → ended c ≡ false
-      → ((m : ChargeMessage) → Says x st m id s → these m ≡ true) → Unheard c (Came id s)
-  unfolding Unheard
+  unheard-frame : (x : Settings) (st : ℕ) (c : Controller) (id : ℕ) (s : List ℕ) → Deaf x st c → noSession c ≡ false
+      → ((m : ChargeMessage) → Says x st m id s → these m ≡ true) → Unheeded c (FrameReceived id s)
+  unfolding Unheeded
   unheard-frame x st c id s d o f m says =
       deaf (c .session .state) m (d .state)
       (f m (subst (λ (z : ℕ). Says x z m id s) (d .station o) (subst (λ (y : Settings). Says y (c .session .station) m id s) (d .settings) says)))
 
-  deaf-frame : (x : Settings) (st : ℕ) (c : Controller) (id : ℕ) (s : List ℕ) → Deaf x st c → ended c ≡ false → Unheard c (Came id s)
-      → Deaf x st (after c (Came id s))
+  deaf-frame : (x : Settings) (st : ℕ) (c : Controller) (id : ℕ) (s : List ℕ) → Deaf x st c → noSession c ≡ false → Unheeded c (FrameReceived id s)
+      → Deaf x st (after c (FrameReceived id s))
   unfolding after
   deaf-frame x st c id s d o u =
       record {
         settings = kept-settings c id s ∙ d .settings;
-        station = λ p. ap (λ (z : Session). z .station) (unheard-kept c id s o u) ∙ d .station o;
-        state = ap (λ (z : Session). among (z .state)) (unheard-kept c id s o u) ∙ d .state;
+        station = λ p. ap (λ (z : Session). z .station) (unheeded-kept c id s o u) ∙ d .station o;
+        state = ap (λ (z : Session). among (z .state)) (unheeded-kept c id s o u) ∙ d .state;
       }
 
   state-tick : (c : Controller) (r : Readings) (v : List ℕ) (t : List ℤ) (b : Bool) → among (c .session .state) ≡ true
@@ -144,37 +144,37 @@ module _ (among : State → Bool) (these : ChargeMessage → Bool)
   settings-tick c r v t true = refl
   settings-tick c r v t false = refl
 
-  deaf-tick : (x : Settings) (st : ℕ) (c : Controller) (r : Readings) (v : List ℕ) (t : List ℤ) (old : List ℕ) → Deaf x st c → ended c ≡ false
-      → Deaf x st (after c (Beaten r v t old))
+  deaf-tick : (x : Settings) (st : ℕ) (c : Controller) (r : Readings) (v : List ℕ) (t : List ℤ) (old : List ℕ) → Deaf x st c → noSession c ≡ false
+      → Deaf x st (after c (TickMade r v t old))
   unfolding after
   deaf-tick x st c r v t old d o =
       record {
         settings = settings-tick c r v t (accepts r v t old) ∙ d .settings;
-        station = λ p. kept-open c (Beaten r v t old) o p ∙ d .station o;
+        station = λ p. kept-open c (TickMade r v t old) o p ∙ d .station o;
         state = state-tick c r v t (accepts r v t old) (d .state);
       }
 
-  over-silence : (c : Controller) (es : List Event) → ended c ≡ true → Silence c es
+  over-silence : (c : Controller) (es : List Event) → noSession c ≡ true → Silence c es
   unfolding Silence
   over-silence c [] h = tt
   over-silence c (e ∷ es) h = λ o. absurd (false≢true (sym o ∙ h))
 
   -- new settings end the session, and a record that is refused changes nothing
   either-read : (a : SettingsRead) (c : Controller) (es : List Event) → Silence c es → Silence (readInto a c) es
-  unfolding readInto freshOf ended isIdle
+  unfolding readInto freshOf noSession isIdle
   either-read (read.Read y) c es h = over-silence (freshOf y) es refl
   either-read (read.Refused n) c es h = h
 
   deaf-silence : (x : Settings) (st : ℕ) (es : List Event) (c : Controller) → Deaf x st c → SaysOnly these x st es → Silence c es
-  unfolding SaysOnly Silence Unheard after
+  unfolding SaysOnly Silence Unheeded after
   deaf-silence x st [] c d f = tt
-  deaf-silence x st (Came id s ∷ es) c d f = λ o.
-      let u : Unheard c (Came id s) = unheard-frame x st c id s d o (f .0) in
-      (u, deaf-silence x st es (after c (Came id s)) (deaf-frame x st c id s d o u) (f .1))
-  deaf-silence x st (Beaten r v t old ∷ es) c d f = λ o.
-      (tt, deaf-silence x st es (after c (Beaten r v t old)) (deaf-tick x st c r v t old d o) f)
-  deaf-silence x st (Wrote old ∷ es) c d f = λ o. (tt, deaf-silence x st es (after c (Wrote old)) d f)
-  deaf-silence x st (Reread s ∷ es) c d f = λ o. (tt, either-read (readOf s) c es (deaf-silence x st es c d f))
+  deaf-silence x st (FrameReceived id s ∷ es) c d f = λ o.
+      let u : Unheeded c (FrameReceived id s) = unheard-frame x st c id s d o (f .0) in
+      (u, deaf-silence x st es (after c (FrameReceived id s)) (deaf-frame x st c id s d o u) (f .1))
+  deaf-silence x st (TickMade r v t old ∷ es) c d f = λ o.
+      (tt, deaf-silence x st es (after c (TickMade r v t old)) (deaf-tick x st c r v t old d o) f)
+  deaf-silence x st (RecordWritten old ∷ es) c d f = λ o. (tt, deaf-silence x st es (after c (RecordWritten old)) d f)
+  deaf-silence x st (RecordRead s ∷ es) c d f = λ o. (tt, either-read (readOf s) c es (deaf-silence x st es c d f))
 
   deaf-ends : (c : Controller) (es : List Event) → among (c .session .state) ≡ true → SaysOnly these (c .settings) (c .session .station) es
       → longest ≤ ticksIn es → endsWithin c es ≡ true

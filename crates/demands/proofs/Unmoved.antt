@@ -29,8 +29,8 @@ use Rattle.refusals.specs.Frame.{notCan, flagsSet, notForUs, badSource}
 use Rattle.controller.specs.Frame.{refused, mayCharge, withSession, contentTaken, chargeTo, withQueries, queryTo, messageTo, knownTo, frameTo}
 use Rattle.controller.specs.Tick.{broadcastFrames, cellFrames}
 use Rattle.demands.specs.Machine.{paperNext}
-use Rattle.demands.specs.Apart.{Event, Came, Beaten, Wrote, Reread, accepts, readInto, after, chargeIn, isCharge}
-use Rattle.demands.specs.Unmoved.{charging, others, Said, broadcastsAt, cellsAt, saidAt, said, Beside}
+use Rattle.demands.specs.Apart.{Event, FrameReceived, TickMade, RecordWritten, RecordRead, accepts, readInto, after, chargeIn, isCharge}
+use Rattle.demands.specs.Unmoved.{isChargeMessage, others, Output, broadcastsAt, cellsAt, outputAt, outputs, Beside}
 use Rattle.demands.proofs.Apart.{made, choice, choices}
 
 -- ---- a charge message leaves all but the session
@@ -120,12 +120,12 @@ module _ (c d : Controller) (a : Beside c d) where
   beside-read (read.Read x) = record { settings = refl; beat = refl; queries = refl }
   beside-read (read.Refused n) = a
 
-  beside-event : (e : Event) → charging e ≡ false → Beside (after c e) (after d e)
-  unfolding after charging
-  beside-event (Came id s) h = same-frame id s h .beside
-  beside-event (Beaten r v t old) h = beside-choice (accepts r v t old) _ _ (beside-next r v t)
-  beside-event (Wrote old) h = a
-  beside-event (Reread s) h = beside-read (readOf s)
+  beside-event : (e : Event) → isChargeMessage e ≡ false → Beside (after c e) (after d e)
+  unfolding after isChargeMessage
+  beside-event (FrameReceived id s) h = same-frame id s h .beside
+  beside-event (TickMade r v t old) h = beside-choice (accepts r v t old) _ _ (beside-next r v t)
+  beside-event (RecordWritten old) h = a
+  beside-event (RecordRead s) h = beside-read (readOf s)
 
   same-broadcasts : (r : Readings) (v : List ℕ) (t : List ℤ) → broadcastFrames c r v t ≡ broadcastFrames d r v t
   unfolding broadcastFrames
@@ -135,50 +135,50 @@ module _ (c d : Controller) (a : Beside c d) where
   unfolding cellFrames
   same-cells r v t = rw (a .settings, a .queries)
 
-  same-said : (e : Event) → charging e ≡ false → saidAt c e ≡ saidAt d e
-  unfolding saidAt broadcastsAt cellsAt charging
-  same-said (Came id s) h = rw (h, same-frame id s h .number)
-  same-said (Beaten r v t old) h = rw (same-broadcasts r v t, same-cells r v t)
-  same-said (Wrote old) h = refl
-  same-said (Reread s) h = refl
+  same-said : (e : Event) → isChargeMessage e ≡ false → outputAt c e ≡ outputAt d e
+  unfolding outputAt broadcastsAt cellsAt isChargeMessage
+  same-said (FrameReceived id s) h = rw (h, same-frame id s h .number)
+  same-said (TickMade r v t old) h = rw (same-broadcasts r v t, same-cells r v t)
+  same-said (RecordWritten old) h = refl
+  same-said (RecordRead s) h = refl
 
 -- a charge message is not said
-unsaid : (c : Controller) (e : Event) → charging e ≡ true → saidAt c e ≡ []
-unfolding saidAt charging
-unsaid c (Came id s) h = rw h
-unsaid c (Beaten r v t old) h = absurd (false≢true h)
-unsaid c (Wrote old) h = absurd (false≢true h)
-unsaid c (Reread s) h = absurd (false≢true h)
+unsaid : (c : Controller) (e : Event) → isChargeMessage e ≡ true → outputAt c e ≡ []
+unfolding outputAt isChargeMessage
+unsaid c (FrameReceived id s) h = rw h
+unsaid c (TickMade r v t old) h = absurd (false≢true h)
+unsaid c (RecordWritten old) h = absurd (false≢true h)
+unsaid c (RecordRead s) h = absurd (false≢true h)
 
-unmoved-by : (c : Controller) (e : Event) → charging e ≡ true → Beside (after c e) c
-unfolding after charging
-unmoved-by c (Came id s) h = charge-stays c id s h
-unmoved-by c (Beaten r v t old) h = absurd (false≢true h)
-unmoved-by c (Wrote old) h = absurd (false≢true h)
-unmoved-by c (Reread s) h = absurd (false≢true h)
+unmoved-by : (c : Controller) (e : Event) → isChargeMessage e ≡ true → Beside (after c e) c
+unfolding after isChargeMessage
+unmoved-by c (FrameReceived id s) h = charge-stays c id s h
+unmoved-by c (TickMade r v t old) h = absurd (false≢true h)
+unmoved-by c (RecordWritten old) h = absurd (false≢true h)
+unmoved-by c (RecordRead s) h = absurd (false≢true h)
 
 then : (c d e : Controller) → Beside c d → Beside d e → Beside c e
 then c d e a b =
     record { settings = a .settings ∙ b .settings; beat = a .beat ∙ b .beat; queries = a .queries ∙ b .queries }
 
 abbrev Deaf : List Event → Type 0
-Deaf es = (c d : Controller) → Beside c d → said c es ≡ said d (others es)
+Deaf es = (c d : Controller) → Beside c d → outputs c es ≡ outputs d (others es)
 
-one-more : (e : Event) (es : List Event) → Deaf es → (c d : Controller) → Beside c d → (t : Bool) → charging e ≡ t
-    → saidAt c e ++ said (after c e) es ≡ said d (cond t (others es) (e ∷ others es))
-unfolding said
+one-more : (e : Event) (es : List Event) → Deaf es → (c d : Controller) → Beside c d → (t : Bool) → isChargeMessage e ≡ t
+    → outputAt c e ++ outputs (after c e) es ≡ outputs d (cond t (others es) (e ∷ others es))
+unfolding outputs
 one-more e es ih c d a true h =
-    ap (λ (l : List Said). l ++ said (after c e) es) (unsaid c e h) ∙ ih (after c e) d (then (after c e) c d (unmoved-by c e h) a)
+    ap (λ (l : List Output). l ++ outputs (after c e) es) (unsaid c e h) ∙ ih (after c e) d (then (after c e) c d (unmoved-by c e h) a)
 one-more e es ih c d a false h =
-    ap (λ (l : List Said). l ++ said (after c e) es) (same-said c d a e h)
-    ∙ ap (λ (l : List Said). saidAt d e ++ l) (ih (after c e) (after d e) (beside-event c d a e h))
+    ap (λ (l : List Output). l ++ outputs (after c e) es) (same-said c d a e h)
+    ∙ ap (λ (l : List Output). outputAt d e ++ l) (ih (after c e) (after d e) (beside-event c d a e h))
 
 deaf : (es : List Event) → Deaf es
-unfolding said others
+unfolding outputs others
 deaf [] c d a = refl
-deaf (e ∷ es) c d a = one-more e es (deaf es) c d a (charging e) refl
+deaf (e ∷ es) c d a = one-more e es (deaf es) c d a (isChargeMessage e) refl
 
 -- two controllers that agree beside their sessions, and two lists of events that differ only in charge messages: the same broadcasts, the
 -- same cell answers and the same numbers to queries
-pub unmoved : (c d : Controller) (ks ls : List Event) → Beside c d → others ks ≡ others ls → said c ks ≡ said d ls
-unmoved c d ks ls a h = deaf ks c d a ∙ (ap (said d) h ∙ sym (deaf ls d d (record { settings = refl; beat = refl; queries = refl })))
+pub unmoved : (c d : Controller) (ks ls : List Event) → Beside c d → others ks ≡ others ls → outputs c ks ≡ outputs d ls
+unmoved c d ks ls a h = deaf ks c d a ∙ (ap (outputs d) h ∙ sym (deaf ls d d (record { settings = refl; beat = refl; queries = refl })))

@@ -12,6 +12,6 @@ pub mod Gone
 pub mod Silent
 pub mod SilentSlips
 pub mod Unmoved
-pub mod Asked
+pub mod Requests
 pub mod Since
 pub mod Reach

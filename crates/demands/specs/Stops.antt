@@ -1,5 +1,6 @@
 -- "Exactly which tick ends or stops a session, and why": what a tick makes of each state, by the first of the paper's rules that holds (01,
--- "Session by tick"). The vocabulary of proofs/Stops.antt.
+-- "Session by tick"). For `what-a-tick-does`, `what-a-refused-tick-does` and `what-a-tick-does-in-idle`, and for `which-tick-ends-a-session` and
+-- `which-tick-ends-a-charge`.
 use Prim.Native.Nat.{ℕ, _/_}
 use mathlib.Core.Path.{_≡_}
 use mathlib.Core.Bool.{Bool, true, false, cond, _&&_, _||_}
@@ -25,12 +26,12 @@ use Rattle.literal.specs.Literal.{older}
 pub data Why : Type 0 where
   GoesOn : Why
   -- Offered to Charging: silence 200 enters Error
-  Silence : Why
+  Silence200 : Why
   -- Offered to Ready: charge is not wanted
-  Unwanted : Why
+  NotWantedBefore : Why
   -- Charging: charge is not wanted; current above maximum; pack voltage at or above maximum; a Drive or a Hold has had its time; a cell at or
   -- above maximum in Hold
-  NotWanted : Why
+  NotWantedCharging : Why
   CurrentAbove : Why
   PackFull : Why
   TimeUp : Why
@@ -52,15 +53,15 @@ inHold (Hold time) = true
 
 module _ (x : Settings) (r : Readings) (c : Cells) where
   abbrev pub whyWaiting : ℕ → Why
-  whyWaiting silence = cond (leb 200 silence) Silence (cond (wantedOf r) GoesOn Unwanted)
+  whyWaiting silence = cond (leb 200 silence) Silence200 (cond (wantedOf r) GoesOn NotWantedBefore)
 
   abbrev pub whyCharging : ℕ → Phase → Why
   whyCharging silence p =
-      cond (leb 200 silence) Silence
+      cond (leb 200 silence) Silence200
       (cond (wantedOf r)
       (cond (aboveOf (r .current) (x .current)) CurrentAbove
       (cond (packFull x r) PackFull (cond (timeUp p) TimeUp (cond (inHold p && cellFull x c) CellFull GoesOn))))
-      NotWanted)
+      NotWantedCharging)
 
   abbrev pub whyClosing : ℕ → Why
   whyClosing count = cond (leb 600 count) Count600 GoesOn
@@ -101,9 +102,9 @@ module _ (x : Settings) (r : Readings) (c : Cells) where
   -- the state that each leads to
   unfoldable pub LeadsTo : State → Why → State → Type 0
   LeadsTo from GoesOn to = GoesOnAs from to
-  LeadsTo from Silence to = to ≡ Error
-  LeadsTo from Unwanted to = to ≡ Idle
-  LeadsTo from NotWanted to = to ≡ stoppedFor Other
+  LeadsTo from Silence200 to = to ≡ Error
+  LeadsTo from NotWantedBefore to = to ≡ Idle
+  LeadsTo from NotWantedCharging to = to ≡ stoppedFor Other
   LeadsTo from CurrentAbove to = to ≡ stoppedFor Other
   LeadsTo from PackFull to = to ≡ stoppedFor PackVoltage
   LeadsTo from TimeUp to = to ≡ stoppedFor Other
@@ -113,9 +114,9 @@ module _ (x : Settings) (r : Readings) (c : Cells) where
 -- which of them end a session
 unfoldable pub endsFor : Why → Bool
 endsFor GoesOn = false
-endsFor Silence = false
-endsFor Unwanted = true
-endsFor NotWanted = false
+endsFor Silence200 = false
+endsFor NotWantedBefore = true
+endsFor NotWantedCharging = false
 endsFor CurrentAbove = false
 endsFor PackFull = false
 endsFor TimeUp = false
@@ -125,9 +126,9 @@ endsFor Count600 = true
 -- which take a session out of Charging, to Error or to Stopping; the two that end a session are of other states, and leave theirs
 unfoldable pub leavesFor : Why → Bool
 leavesFor GoesOn = false
-leavesFor Silence = true
-leavesFor Unwanted = true
-leavesFor NotWanted = true
+leavesFor Silence200 = true
+leavesFor NotWantedBefore = true
+leavesFor NotWantedCharging = true
 leavesFor CurrentAbove = true
 leavesFor PackFull = true
 leavesFor TimeUp = true

@@ -1,5 +1,5 @@
 -- "Rows marked P below are shown of the definitions, as one table under a single statement" (01, "What a reader can rely on"; "Worked
--- rows"). In the paper's order.
+-- rows"). In the paper's order. For `worked-rows`.
 use Prim.Native.Nat.{ℕ, suc}
 use mathlib.Core.Path.{_≡_}
 use mathlib.Core.Bool.{Bool, true, false}

@@ -41,8 +41,8 @@ use Rattle.controller.specs.declared.Answer.{Answer}
 use Rattle.controller.specs.Start.{freshOf}
 use Rattle.controller.specs.Frame.{withSession, frameTo}
 use Rattle.demands.specs.Machine.{paperNext}
-use Rattle.demands.specs.Apart.{Event, Came, Beaten, Wrote, Reread, accepts, readInto, after, afterAll}
-use Rattle.demands.specs.Asked.{requestOf, requestIn}
+use Rattle.demands.specs.Apart.{Event, FrameReceived, TickMade, RecordWritten, RecordRead, accepts, readInto, after, afterAll}
+use Rattle.demands.specs.Requests.{requestOf, requestIn}
 use Rattle.demands.proofs.Came.{Comes, Unmoved, Took, came}
 use Rattle.demands.proofs.Apart.{kept-settings}
 
@@ -281,10 +281,10 @@ tick-within c r v t false h = h
 
 event-within : (c : Controller) (e : Event) → Within c → Within (after c e)
 unfolding after
-event-within c (Came id s) h = frame-within c id s (frameTo c id s) (kept-settings c id s) (came c id s) h
-event-within c (Beaten r v t old) h = tick-within c r v t (accepts r v t old) h
-event-within c (Wrote old) h = h
-event-within c (Reread s) h = read-within (readOf s) c h
+event-within c (FrameReceived id s) h = frame-within c id s (frameTo c id s) (kept-settings c id s) (came c id s) h
+event-within c (TickMade r v t old) h = tick-within c r v t (accepts r v t old) h
+event-within c (RecordWritten old) h = h
+event-within c (RecordRead s) h = read-within (readOf s) c h
 
 run-within : (c : Controller) (es : List Event) → Within c → Within (afterAll c es)
 unfolding afterAll

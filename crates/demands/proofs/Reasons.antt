@@ -22,7 +22,7 @@ use Rattle.turns.specs.Turns.{cellFull, packFull, stopOf, waitingOf, phaseOn, p
 use Rattle.session.specs.declared.Session.{Session}
 use Rattle.session.specs.Tick.{turnedBy, turnIn}
 use Rattle.literal.specs.Literal.{grown, counted, literalIn, literalAdvance, literalTick}
-use Rattle.demands.specs.Stops.{Why, GoesOn, Silence, Unwanted, NotWanted, CurrentAbove, PackFull, TimeUp, CellFull, Count600}
+use Rattle.demands.specs.Stops.{Why, GoesOn, Silence200, NotWantedBefore, NotWantedCharging, CurrentAbove, PackFull, TimeUp, CellFull, Count600}
 use Rattle.demands.specs.Stops.{timeUp, inHold, whyIn, whyOf, ChargesAs, GoesOnAs, LeadsTo}
 
 -- ---- what a phase comes to
@@ -74,7 +74,7 @@ module _ (x : Settings) (r : Readings) (c : Cells) (s : Session) where
   reached t = literalAdvance (turnedBy s t) .state
 
   wait-why : (st : State) (late wanted : Bool) → GoesOnAs x r c st (reached (On st))
-      → LeadsTo x r c st (cond late Silence (cond wanted GoesOn Unwanted)) (reached (cond late (Enter Error) (cond wanted (On st) Farewell)))
+      → LeadsTo x r c st (cond late Silence200 (cond wanted GoesOn NotWantedBefore)) (reached (cond late (Enter Error) (cond wanted (On st) Farewell)))
   unfolding LeadsTo reached turnedBy literalAdvance literalIn counted
   wait-why st true wanted h = refl
   wait-why st false true h = h
@@ -82,7 +82,7 @@ module _ (x : Settings) (r : Readings) (c : Cells) (s : Session) where
 
   charge-why : (p : Phase) (late wanted above full : Bool) (t : Turned) → turnedOf p (cellFull x c) ≡ t
       → LeadsTo x r c (Charging p)
-      (cond late Silence (cond wanted (cond above CurrentAbove (cond full PackFull (turnedWhy t))) NotWanted))
+      (cond late Silence200 (cond wanted (cond above CurrentAbove (cond full PackFull (turnedWhy t))) NotWantedCharging))
       (reached
       (cond late (Enter Error)
       (cond wanted (cond above (stopOf x r c Other) (cond full (stopOf x r c PackVoltage) (phaseOn x r c t))) (stopOf x r c Other))))
@@ -111,8 +111,8 @@ module _ (x : Settings) (r : Readings) (c : Cells) (s : Session) where
   turn-why n silence (Ready y most) = wait-why (Ready y most) (leb 200 silence) (wantedOf r) refl
   turn-why n silence (Charging p) =
       subst (λ (w : Why). LeadsTo x r c (Charging p)
-      (cond (leb 200 silence) Silence
-      (cond (wantedOf r) (cond (aboveOf (r .current) (x .current)) CurrentAbove (cond (packFull x r) PackFull w)) NotWanted))
+      (cond (leb 200 silence) Silence200
+      (cond (wantedOf r) (cond (aboveOf (r .current) (x .current)) CurrentAbove (cond (packFull x r) PackFull w)) NotWantedCharging))
       (reached (turnOf x r c (Charging p) n silence)))
       (phase-why p (cellFull x c))
       (charge-why p (leb 200 silence) (wantedOf r) (aboveOf (r .current) (x .current)) (packFull x r) (turnedOf p (cellFull x c)) refl)
