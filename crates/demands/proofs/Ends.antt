@@ -23,7 +23,7 @@ use Rattle.session.specs.Message.{sessionAfter, appliedOf, messageOf}
 use Rattle.controller.specs.declared.Controller.{Controller}
 use Rattle.controller.specs.declared.Answer.{Answer}
 use Rattle.refusals.specs.Frame.{isIdle}
-use Rattle.controller.specs.Frame.{refused, withSession, frameTo}
+use Rattle.controller.specs.Frame.{refused, frameTo}
 use Rattle.controller.specs.Start.{freshOf}
 use Rattle.demands.specs.Says.{Says}
 use Rattle.demands.specs.Apart.{Event, FrameReceived, TickMade, RecordWritten, RecordRead, accepts, readInto, isRead, after, afterAll, noSession}
@@ -31,7 +31,8 @@ use Rattle.demands.specs.Gone.{estGone}
 use Rattle.demands.specs.Kinds.{isCharging, isStopping}
 use Rattle.demands.specs.Stops.{whyOf, endsFor, leavesFor}
 use Rattle.demands.specs.Ends.{messageEnds, messageLeaves, EndsSession, ByCem, ByCst, ByTick, ByReading, EndsCharge, AtCcs, AtCst, AtCem, AtTick, AtReading}
-use Rattle.demands.proofs.Came.{Comes, Unmoved, Took, came, station-is, taken-in}
+use Rattle.demands.proofs.View.{sessionMoved}
+use Rattle.demands.proofs.Comes.{Comes, Left, Took, came, station-is, taken-in}
 use Rattle.demands.proofs.Messages.{ends-message, leaves-message}
 use Rattle.demands.proofs.Gone.{est-gone}
 use Rattle.demands.proofs.Stops.{charging-open, which-tick-ends-a-session, which-tick-ends-a-charge}
@@ -60,8 +61,8 @@ early-in x n (Stopping k e) h g = rw g
 early-in x n Error h g = absurd (false≢true h)
 
 refuses-early : (c : Controller) → ltb 0 (c .session .count) ≡ false → isStopping (c .session .state) ≡ true
-    → withSession c (messageOf (c .settings) (c .session .station) (c .session) (Cst true)) ≡ refused 11 c
-unfolding withSession messageOf appliedOf sessionAfter
+    → sessionMoved c (messageOf (c .settings) (c .session .station) (c .session) (Cst true)) ≡ refused 11 c
+unfolding sessionMoved messageOf appliedOf sessionAfter
 refuses-early c g h = rw (early-in (c .settings) (c .session .count) (c .session .state) h g)
 
 -- in an open session, exactly which messages end it, and exactly which end its charge
@@ -110,8 +111,8 @@ module _ (c : Controller) (id : ℕ) (s : List ℕ) where
 
   ended-came : (a : Answer) → Comes c id s a → isIdle (c .session .state) ≡ false → isIdle (a .controller .session .state) ≡ true
       → EndsSession gone-by-count c (FrameReceived id s)
-  unfolding withSession messageOf appliedOf
-  ended-came a (Unmoved k n) h e = absurd (false≢true (sym h ∙ (ap (λ (t : Session). isIdle (t .state)) (sym k) ∙ e)))
+  unfolding sessionMoved messageOf appliedOf
+  ended-came a (Left u k n) h e = absurd (false≢true (sym h ∙ (ap (λ (t : Session). isIdle (t .state)) (sym k) ∙ e)))
   ended-came a (Took m says may k) h e =
       ended-by m (its m (partsOf id .source) (station-is c (partsOf id .source) h may) says)
       (sym (which-message-ends-a-session (c .settings) (partsOf id .source) (c .session) m h)
@@ -119,8 +120,8 @@ module _ (c : Controller) (id : ℕ) (s : List ℕ) where
 
   stopped-came : (a : Answer) → Comes c id s a → isCharging (c .session .state) ≡ true → isCharging (a .controller .session .state) ≡ false
       → EndsCharge c (FrameReceived id s)
-  unfolding withSession messageOf appliedOf
-  stopped-came a (Unmoved k n) h e = absurd (false≢true (sym e ∙ (ap (λ (t : Session). isCharging (t .state)) k ∙ h)))
+  unfolding sessionMoved messageOf appliedOf
+  stopped-came a (Left u k n) h e = absurd (false≢true (sym e ∙ (ap (λ (t : Session). isCharging (t .state)) k ∙ h)))
   stopped-came a (Took m says may k) h e =
       stopped-by m (its m (partsOf id .source) (station-is c (partsOf id .source) (charging-open (c .session .state) h) may) says)
       ((sym e ∙ ap (λ (t : Answer). isCharging (t .controller .session .state)) k)
@@ -128,14 +129,14 @@ module _ (c : Controller) (id : ℕ) (s : List ℕ) where
 
   its-ends : (m : ChargeMessage) → isIdle (c .session .state) ≡ false → Its m → messageEnds (c .session .state) (c .session .count) m ≡ true
       → isIdle (frameTo c id s .controller .session .state) ≡ true
-  unfolding withSession messageOf appliedOf
+  unfolding sessionMoved messageOf appliedOf
   its-ends m h says e =
       ap (λ (t : Answer). isIdle (t .controller .session .state)) (taken-in c id s m h says)
       ∙ (which-message-ends-a-session (c .settings) (c .session .station) (c .session) m h ∙ e)
 
   its-stops : (m : ChargeMessage) → isCharging (c .session .state) ≡ true → Its m → messageLeaves m ≡ true
       → isCharging (frameTo c id s .controller .session .state) ≡ false
-  unfolding withSession messageOf appliedOf
+  unfolding sessionMoved messageOf appliedOf
   its-stops m h says e =
       ap (λ (t : Answer). isCharging (t .controller .session .state)) (taken-in c id s m (charging-open (c .session .state) h) says)
       ∙ (which-message-ends-a-charge (c .settings) (c .session .station) (c .session) m h ∙ ap not e)

@@ -35,14 +35,15 @@ use Rattle.outcomes.specs.Message.{outcomeOf}
 use Rattle.controller.specs.declared.Controller.{Controller}
 use Rattle.controller.specs.declared.Answer.{Answer}
 use Rattle.controller.specs.Start.{freshOf}
-use Rattle.controller.specs.Frame.{withSession, frameTo}
+use Rattle.controller.specs.Frame.{frameTo}
 use Rattle.controller.specs.Tick.{tickFrames, chargeFrames, broadcastFrames, cellFrames, accepted}
 use Rattle.demands.specs.Machine.{Using, paperNext, seenOf, framesSeen}
 use Rattle.demands.specs.Apart.{Event, FrameReceived, TickMade, RecordWritten, RecordRead, callOf, accepts, readInto, after, afterAll}
 use Rattle.demands.specs.Kinds.{isStopping}
 use Rattle.demands.specs.Gone.{holdsEst, sendsEst, goneAfter, estGone}
 use Rattle.demands.proofs.Tests.{and-false, or-left, or-right}
-use Rattle.demands.proofs.Came.{Comes, Unmoved, Took, came}
+use Rattle.demands.proofs.View.{sessionMoved}
+use Rattle.demands.proofs.Comes.{Comes, Left, Took, came}
 use Rattle.demands.proofs.Messages.{mk, enters-anew, stays-stopping}
 
 -- in Stopping, the count tells whether one has gone out
@@ -100,8 +101,8 @@ module _ (gone : Bool) (c : Controller) (h : Agrees gone (c .session)) where
 
   frame-agrees : (id : ℕ) (l : List ℕ) (a : Answer) → Comes c id l a
       → Agrees (isStopping (a .controller .session .state) && ((isStopping (c .session .state) && gone) || false)) (a .controller .session)
-  unfolding withSession messageOf appliedOf
-  frame-agrees id l a (Unmoved k n) = on-as-it-was (a .controller .session) k
+  unfolding sessionMoved messageOf appliedOf
+  frame-agrees id l a (Left u k n) = on-as-it-was (a .controller .session) k
   frame-agrees id l a (Took m says may k) =
       on-without (a .controller .session)
       (λ p. ap (λ (z : Answer). ltb 0 (z .controller .session .count)) k

@@ -3,7 +3,8 @@ pub mod Steps
 pub mod Demand2
 pub mod Calls
 pub mod WorkedRows
-pub mod Came
+pub mod View
+pub mod Comes
 pub mod Messages
 pub mod Gone
 pub mod Ends

@@ -37,7 +37,7 @@ use Rattle.demands.specs.Over.{openedWith}
 use Rattle.demands.specs.Reach.{chargingWith, Stretch, UntilCvm, UntilVerified, UntilCmp, UntilCrm, besides, Passing}
 use Rattle.demands.specs.Reach.{Follows, Passes, Ticks, Speaks, Delays, VerifiesLater, Verifies, Offers, Starts}
 use Rattle.demands.proofs.Tests.{or-false}
-use Rattle.demands.proofs.Apart.{kept-settings}
+use Rattle.demands.proofs.Comes.{kept-settings}
 use Rattle.demands.proofs.Over.{each-opens}
 use Rattle.demands.proofs.Together.{left-out}
 use Rattle.demands.proofs.ReachFrames.{frame-says, Spoken, Unsaid, Said, spoken}

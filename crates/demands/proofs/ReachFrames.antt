@@ -19,15 +19,16 @@ use Rattle.charge_messages.specs.Content.{contentOf}
 use Rattle.session.specs.Message.{messageOf}
 use Rattle.controller.specs.declared.Controller.{Controller}
 use Rattle.controller.specs.declared.Answer.{Answer}
-use Rattle.controller.specs.Frame.{withSession, frameTo}
+use Rattle.controller.specs.Frame.{frameTo}
 use Rattle.demands.specs.Apart.{noSession}
 use Rattle.demands.specs.Says.{Says, chargeOf}
-use Rattle.demands.proofs.Came.{Comes, Unmoved, Took, came, station-is, taken-in}
+use Rattle.demands.proofs.View.{sessionMoved}
+use Rattle.demands.proofs.Comes.{Comes, Left, Took, came, station-is, taken-in}
 
 -- the session takes what its station says
 pub frame-says : (c : Controller) (m : ChargeMessage) (id : ℕ) (s : List ℕ) → Says (c .settings) (c .session .station) m id s → noSession c ≡ false
     → frameTo c id s .controller .session ≡ messageOf (c .settings) (c .session .station) (c .session) m .session
-unfolding withSession noSession
+unfolding sessionMoved noSession
 frame-says c m id s h o = ap (λ (a : Answer). a .controller .session) (taken-in c id s m o h)
 
 -- a frame says one message
@@ -53,7 +54,7 @@ pub data Spoken (c : Controller) (id : ℕ) (s : List ℕ) (a : Answer) : Type 0
 
 spoken-of : (c : Controller) (id : ℕ) (s : List ℕ) (a : Answer) → noSession c ≡ false → Comes c id s a → Spoken c id s a
 unfolding noSession
-spoken-of c id s a o (Unmoved k n) = Unsaid k
+spoken-of c id s a o (Left u k n) = Unsaid k
 spoken-of c id s a o (Took m says may k) =
     Said m (subst (λ (z : ℕ). Says (c .settings) z m id s) (station-is c (partsOf id .source) o may) says)
 

@@ -44,12 +44,13 @@ use Rattle.session.specs.Tick.{turnedBy, turnIn}
 use Rattle.literal.specs.Literal.{grown, counted, literalIn, literalAdvance, literalTick}
 use Rattle.controller.specs.declared.Controller.{Controller}
 use Rattle.controller.specs.declared.Answer.{Answer}
-use Rattle.controller.specs.Frame.{withSession, frameTo}
+use Rattle.controller.specs.Frame.{frameTo}
 use Rattle.demands.specs.Machine.{paperNext}
 use Rattle.demands.specs.Apart.{Event, FrameReceived, TickMade, RecordWritten, RecordRead, accepts, readInto, after, afterAll}
 use Rattle.demands.specs.Kinds.{isCharging}
 use Rattle.demands.specs.Silent.{isAcceptedTick, ticksIn}
-use Rattle.demands.proofs.Came.{Comes, Unmoved, Took, came}
+use Rattle.demands.proofs.View.{sessionMoved}
+use Rattle.demands.proofs.Comes.{Comes, Left, Took, came}
 use Rattle.demands.proofs.Messages.{mk}
 
 -- the accepted ticks since Idle that a state with this count needs, at the least
@@ -210,8 +211,8 @@ module _ (x : Settings) (source a b n : ℕ) where
 
 -- a frame, whoever sends it
 frame-needs : (c : Controller) (id : ℕ) (s : List ℕ) (a : Answer) → Comes c id s a → needed (a .controller .session) ≤ needed (c .session)
-unfolding needed withSession messageOf appliedOf
-frame-needs c id s a (Unmoved h n) = let e : needed (a .controller .session) ≡ needed (c .session) = ap needed h in omega (arith, e)
+unfolding needed sessionMoved messageOf appliedOf
+frame-needs c id s a (Left u h n) = let e : needed (a .controller .session) ≡ needed (c .session) = ap needed h in omega (arith, e)
 frame-needs c id s a (Took m says may h) =
     let e : needed (a .controller .session) ≡ needed (messageOf (c .settings) (partsOf id .source) (c .session) m .session) =
     ap (λ (z : Answer). needed (z .controller .session)) h in

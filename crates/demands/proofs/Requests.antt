@@ -39,12 +39,12 @@ use Rattle.literal.specs.Literal.{older, grown, counted, literalIn, literalAdva
 use Rattle.controller.specs.declared.Controller.{Controller}
 use Rattle.controller.specs.declared.Answer.{Answer}
 use Rattle.controller.specs.Start.{freshOf}
-use Rattle.controller.specs.Frame.{withSession, frameTo}
+use Rattle.controller.specs.Frame.{frameTo}
 use Rattle.demands.specs.Machine.{paperNext}
 use Rattle.demands.specs.Apart.{Event, FrameReceived, TickMade, RecordWritten, RecordRead, accepts, readInto, after, afterAll}
 use Rattle.demands.specs.Requests.{requestOf, requestIn}
-use Rattle.demands.proofs.Came.{Comes, Unmoved, Took, came}
-use Rattle.demands.proofs.Apart.{kept-settings}
+use Rattle.demands.proofs.View.{sessionMoved}
+use Rattle.demands.proofs.Comes.{Comes, Left, Took, came}
 
 -- ---- the start
 lesser-least : (a b : ℕ) (t : Bool) → leb a b ≡ t → cond t a b ≤ a
@@ -258,13 +258,12 @@ module _ (x : Settings) (r : Readings) (c : Cells) where
 abbrev Within : Controller → Type 0
 Within c = requestIn (c .session .state) ≤ c .settings .current
 
-frame-within : (c : Controller) (id : ℕ) (s : List ℕ) (a : Answer) → a .controller .settings ≡ c .settings → Comes c id s a → Within c
-    → Within (a .controller)
-unfolding withSession messageOf appliedOf
-frame-within c id s a k (Unmoved e n) h =
+frame-within : (c : Controller) (id : ℕ) (s : List ℕ) (a : Answer) → Comes c id s a → Within c → Within (a .controller)
+unfolding sessionMoved messageOf appliedOf
+frame-within c id s a (Left k e n) h =
     subst (λ (z : Settings). requestIn (a .controller .session .state) ≤ z .current) (sym k)
     (subst (λ (z : Session). requestIn (z .state) ≤ c .settings .current) (sym e) h)
-frame-within c id s a k (Took m says may e) h =
+frame-within c id s a (Took m says may e) h =
     subst (λ (z : Answer). Within (z .controller)) (sym e)
     (after-asks (c .settings) (c .session .count) (partsOf id .source) (c .session) (outcomeOf (c .settings) (c .session .state) (c .session .count) m) h
     (outcome-asks (c .settings) (c .session .count) (c .session .state) m))
@@ -281,7 +280,7 @@ tick-within c r v t false h = h
 
 event-within : (c : Controller) (e : Event) → Within c → Within (after c e)
 unfolding after
-event-within c (FrameReceived id s) h = frame-within c id s (frameTo c id s) (kept-settings c id s) (came c id s) h
+event-within c (FrameReceived id s) h = frame-within c id s (frameTo c id s) (came c id s) h
 event-within c (TickMade r v t old) h = tick-within c r v t (accepts r v t old) h
 event-within c (RecordWritten old) h = h
 event-within c (RecordRead s) h = read-within (readOf s) c h

@@ -5,7 +5,6 @@ use mathlib.Core.Path.{_≡_, refl, ap, sym, subst, _∙_}
 use mathlib.Core.Bool.{Bool, true, false, _&&_, false≢true}
 use mathlib.Core.List.{List}
 use lib.Dec.{ltb}
-use borrow.Author.Tests.{eq-eqb}
 use Rattle.settings.specs.declared.Settings.{Settings}
 use Rattle.charge_messages.specs.declared.ChargeMessage.{ChargeMessage}
 use Rattle.charge_messages.specs.declared.ChargeMessage.the-variants.{Cim, Cvm, Cmp, Crm, Ccs, Cst, Cem}
@@ -21,11 +20,12 @@ use Rattle.session.specs.Message.{sessionAfter, appliedOf, messageOf}
 use Rattle.controller.specs.declared.Controller.{Controller}
 use Rattle.refusals.specs.Frame.{isIdle}
 use Rattle.controller.specs.Frame.{frameTo}
-use Rattle.demands.specs.Apart.{FrameReceived, noSession, queryIn, isQuery, fromStation}
+use Rattle.demands.specs.Apart.{FrameReceived, noSession, fromStation}
 use Rattle.demands.specs.Says.{Says}
 use Rattle.demands.specs.Kinds.{isStopping}
 use Rattle.demands.specs.Silent.{feeds, Unheeded}
-use Rattle.demands.proofs.Came.{same}
+use Rattle.demands.proofs.Comes.{same}
+use Rattle.demands.proofs.Apart.{says-from}
 use Rattle.demands.proofs.ReachFrames.{frame-says, Spoken, Unsaid, Said, spoken}
 
 -- ---- the table against the outcomes
@@ -174,11 +174,6 @@ pub unheeded-kept : (c : Controller) (id : ℕ) (s : List ℕ) → noSession c �
 unheeded-kept c id s o u = unheeded-spoken c id s o u (spoken c id s o)
 
 -- ---- a station that sends nothing
--- by what it says the station is the source of a frame, and the frame is no query
-says-from : (x : Settings) (st : ℕ) (m : ChargeMessage) (id : ℕ) (s : List ℕ) → Says x st m id s → fromStation st id ≡ true
-unfolding fromStation isQuery queryIn
-says-from x st m id s h = rw (h .source, eq-eqb st st refl, h .pf)
-
 pub still-unheeded : (c : Controller) (id : ℕ) (s : List ℕ) → fromStation (c .session .station) id ≡ false → Unheeded c (FrameReceived id s)
 unfolding Unheeded
 still-unheeded c id s h m says = absurd (false≢true (sym h ∙ says-from (c .settings) (c .session .station) m id s says))

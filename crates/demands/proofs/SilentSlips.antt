@@ -37,7 +37,8 @@ use Rattle.demands.specs.Apart.{Event, FrameReceived, TickMade, RecordWr
 use Rattle.demands.specs.Says.{Says}
 use Rattle.demands.specs.Silent.{feeds, Unheeded, Silence, ticksIn, endsWithin, longest}
 use Rattle.demands.specs.SilentSlips.{isCim, isHandshake, SaysOnly}
-use Rattle.demands.proofs.Apart.{kept-open, kept-settings}
+use Rattle.demands.proofs.Comes.{kept-settings}
+use Rattle.demands.proofs.Apart.{kept-open}
 use Rattle.demands.proofs.SilentFrames.{unheeded-kept}
 use Rattle.demands.proofs.Silent.{within-801}
 

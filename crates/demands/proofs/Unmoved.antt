@@ -1,111 +1,51 @@
 -- Demand 3, second half: charge messages never change a broadcast, a cell answer or the number that a query is given. Assumes nothing.
 use Prim.Native.Nat.{ℕ}
-use mathlib.Core.Path.{_≡_, refl, ap, sym, subst, _∙_}
+use mathlib.Core.Path.{_≡_, refl, ap, sym, _∙_}
 use mathlib.Core.Bool.{Bool, true, false, cond, false≢true}
 use mathlib.Core.List.{List, [], _∷_, _++_}
-use lib.Dec.{ltb}
 use lib.IntN.{ℤ}
-use lib.ListN.{length}
-use Rattle.messages.specs.declared.received.Query.{Query}
-use Rattle.messages.specs.declared.received.Message.the-variants as message
-use Rattle.messages.specs.declared.received.Recognized.{Recognized}
-use Rattle.messages.specs.declared.received.Recognized.the-variants as recognized
-use Rattle.messages.specs.Identifier.{partsOf}
-use Rattle.messages.specs.Received.{recognizedOf, rowOf}
-use Rattle.settings.specs.declared.Settings.{Settings}
+use Rattle.messages.specs.declared.received.Charge.{Charge}
 use Rattle.settings.specs.declared.SettingsRead.{SettingsRead}
 use Rattle.settings.specs.declared.SettingsRead.the-variants as read
 use Rattle.settings.specs.Read.{readOf}
 use Rattle.readings.specs.declared.Readings.{Readings}
-use Rattle.charge_messages.specs.declared.Content.{Content}
-use Rattle.charge_messages.specs.declared.Content.the-variants as content
-use Rattle.charge_messages.specs.Content.{contentOf}
-use Rattle.session.specs.declared.Session.{Session}
-use Rattle.broadcasts.specs.declared.beat.Beat.{Beat}
-use Rattle.queries.specs.declared.Queries.{Queries}
 use Rattle.controller.specs.declared.Controller.{Controller}
 use Rattle.controller.specs.declared.Answer.{Answer}
-use Rattle.refusals.specs.Frame.{notCan, flagsSet, notForUs, badSource}
-use Rattle.controller.specs.Frame.{refused, mayCharge, withSession, contentTaken, chargeTo, withQueries, queryTo, messageTo, knownTo, frameTo}
+use Rattle.controller.specs.Frame.{frameTo}
 use Rattle.controller.specs.Tick.{broadcastFrames, cellFrames}
 use Rattle.demands.specs.Machine.{paperNext}
 use Rattle.demands.specs.Apart.{Event, FrameReceived, TickMade, RecordWritten, RecordRead, accepts, readInto, after, chargeIn, isCharge}
 use Rattle.demands.specs.Unmoved.{isChargeMessage, others, Output, broadcastsAt, cellsAt, outputAt, outputs, Beside}
-use Rattle.demands.proofs.Apart.{made, choice, choices}
+use Rattle.demands.proofs.View.{sessionMoved, queriesMoved, Clear, View, Refused, Asks, Charges, view}
+use Rattle.demands.proofs.Comes.{Comes, Left, Took, came}
 
 -- ---- a charge message leaves all but the session
-module _ (c : Controller) where
-  abbrev Stays : Answer → Type 0
-  Stays a = Beside (a .controller) c
-
-  as-it-was : Beside c c
-  as-it-was = record { settings = refl; beat = refl; queries = refl }
-
-  stays-content : (source : ℕ) (k : Content) → Stays (contentTaken c source k)
-  unfolding contentTaken withSession
-  stays-content source (content.Allowed m) = record { settings = refl; beat = refl; queries = refl }
-  stays-content source (content.Refused n) = as-it-was
-
-  stays-known : (source : ℕ) (r : Recognized) (l : List ℕ) → chargeIn r ≡ true → Stays (knownTo c source r l)
-  unfolding knownTo messageTo chargeTo chargeIn
-  stays-known source (recognized.As (message.Charge k)) l h =
-      choice Stays (ltb (length l) (rowOf (message.Charge k) .2)) _ _ (λ t. as-it-was)
-      (λ t. choice Stays (mayCharge c source) _ _ (λ m. stays-content source (contentOf k l)) (λ m. as-it-was))
-  stays-known source (recognized.As (message.Query k)) l h = absurd (false≢true h)
-  stays-known source (recognized.Refused n) l h = absurd (false≢true h)
-
-  charge-stays : (id : ℕ) (l : List ℕ) → isCharge id ≡ true → Stays (frameTo c id l)
-  unfolding frameTo isCharge
-  charge-stays id l h =
-      choice Stays (notCan id l) _ _ (λ t. as-it-was)
-      (λ t. choice Stays (flagsSet (partsOf id)) _ _ (λ t. as-it-was)
-      (λ t. choice Stays (notForUs (c .settings .own) (partsOf id)) _ _ (λ t. as-it-was)
-      (λ t. choice Stays (badSource (c .settings .own) (partsOf id)) _ _ (λ t. as-it-was)
-      (λ t. stays-known (partsOf id .source) (recognizedOf (partsOf id .pf)) l h))))
+charge-leaves : (c : Controller) (id : ℕ) (l : List ℕ) (a : Answer) → Comes c id l a → isCharge id ≡ true → Beside (a .controller) c
+unfolding sessionMoved
+charge-leaves c id l a (Left u e n) h = rw (n h .answer) (record { settings = refl; beat = refl; queries = refl })
+charge-leaves c id l a (Took m says may e) h = rw e (record { settings = refl; beat = refl; queries = refl })
 
 -- ---- any other frame does the same whatever the session is
-record Same (a b : Answer) : Type 0 where
+record BesideAfter (a b : Answer) : Type 0 where
   beside : Beside (a .controller) (b .controller)
   number : a .number ≡ b .number
 
-module _ (x : Settings) (s z : Session) (b : Beat) (q : Queries) where
-  abbrev left : Controller
-  left = made x s b q
-
-  abbrev right : Controller
-  right = made x z b q
-
-  refuses : (n : ℕ) → Same (refused n left) (refused n right)
-  refuses n = record { beside = record { settings = refl; beat = refl; queries = refl }; number = refl }
-
-  asks : (source : ℕ) (k : Query) → Same (queryTo left source k) (queryTo right source k)
-  unfolding queryTo withQueries
-  asks source k = record { beside = record { settings = refl; beat = refl; queries = refl }; number = refl }
-
-  knows : (source : ℕ) (r : Recognized) (l : List ℕ) → chargeIn r ≡ false → Same (knownTo left source r l) (knownTo right source r l)
-  unfolding knownTo messageTo chargeIn
-  knows source (recognized.As (message.Charge k)) l h = absurd (false≢true (sym h))
-  knows source (recognized.As (message.Query k)) l h =
-      choices Same (ltb (length l) (rowOf (message.Query k) .2)) _ _ _ _ (refuses 8) (asks source k)
-  knows source (recognized.Refused n) l h = refuses n
-
-  frames-same : (id : ℕ) (l : List ℕ) → isCharge id ≡ false → Same (frameTo left id l) (frameTo right id l)
-  unfolding frameTo isCharge
-  frames-same id l h =
-      choices Same (notCan id l) _ _ _ _ (refuses 3)
-      (choices Same (flagsSet (partsOf id)) _ _ _ _ (refuses 4)
-      (choices Same (notForUs (x .own) (partsOf id)) _ _ _ _ (refuses 5)
-      (choices Same (badSource (x .own) (partsOf id)) _ _ _ _ (refuses 6)
-      (knows (partsOf id .source) (recognizedOf (partsOf id .pf)) l h))))
+clear-charge : (own id : ℕ) (l : List ℕ) (k : Charge) → Clear own id l k → isCharge id ≡ true
+unfolding isCharge chargeIn
+clear-charge own id l k p = rw (p .pf)
 
 -- ---- two controllers that agree beside their sessions go on so, and say the same
 module _ (c d : Controller) (a : Beside c d) where
-  same-frame : (id : ℕ) (l : List ℕ) → isCharge id ≡ false → Same (frameTo c id l) (frameTo d id l)
-  same-frame id l h =
-      subst (λ (x : Settings). Same (frameTo c id l) (frameTo (made x (d .session) (d .beat) (d .queries)) id l)) (a .settings)
-      (subst (λ (b : Beat). Same (frameTo c id l) (frameTo (made (c .settings) (d .session) b (d .queries)) id l)) (a .beat)
-      (subst (λ (q : Queries). Same (frameTo c id l) (frameTo (made (c .settings) (d .session) (c .beat) q) id l)) (a .queries)
-      (frames-same (c .settings) (c .session) (d .session) (c .beat) (c .queries) id l h)))
+  by-case : (id : ℕ) (l : List ℕ) → View (c .settings .own) id l → isCharge id ≡ false → BesideAfter (frameTo c id l) (frameTo d id l)
+  unfolding queriesMoved
+  by-case id l (Refused n h each) f = rw (each c refl, each d (rw (a .settings))) (record { beside = a; number = refl })
+  by-case id l (Asks q h each) f =
+      rw (each c refl, each d (rw (a .settings)))
+      (record { beside = record { settings = a .settings; beat = a .beat; queries = rw (a .queries) }; number = rw (a .queries) })
+  by-case id l (Charges k p each) f = absurd (false≢true (sym f ∙ clear-charge (c .settings .own) id l k p))
+
+  same-frame : (id : ℕ) (l : List ℕ) → isCharge id ≡ false → BesideAfter (frameTo c id l) (frameTo d id l)
+  same-frame id l = by-case id l (view (c .settings .own) id l)
 
   beside-choice : (t : Bool) (p q : Controller) → Beside p q → Beside (cond t p c) (cond t q d)
   beside-choice true p q h = h
@@ -152,7 +92,7 @@ unsaid c (RecordRead s) h = absurd (false≢true h)
 
 unmoved-by : (c : Controller) (e : Event) → isChargeMessage e ≡ true → Beside (after c e) c
 unfolding after isChargeMessage
-unmoved-by c (FrameReceived id s) h = charge-stays c id s h
+unmoved-by c (FrameReceived id s) h = charge-leaves c id s (frameTo c id s) (came c id s) h
 unmoved-by c (TickMade r v t old) h = absurd (false≢true h)
 unmoved-by c (RecordWritten old) h = absurd (false≢true h)
 unmoved-by c (RecordRead s) h = absurd (false≢true h)

@@ -1,3 +1,4 @@
+pub mod With
 pub mod Machine
 pub mod InStep
 pub mod Calls
