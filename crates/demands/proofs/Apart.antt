@@ -6,6 +6,7 @@ use mathlib.Core.List.{List, [], _∷_, _++_}
 use lib.Dec.{eqb}
 use lib.IntN.{ℤ}
 use borrow.Author.Tests.{eq-eqb}
+use Rattle.messages.specs.declared.received.Message.the-variants as message
 use Rattle.messages.specs.Identifier.{partsOf}
 use Rattle.settings.specs.declared.Settings.{Settings}
 use Rattle.settings.specs.declared.SettingsRead.{SettingsRead}
@@ -30,11 +31,11 @@ use Rattle.refusals.specs.Frame.{isIdle}
 use Rattle.controller.specs.Frame.{frameTo}
 use Rattle.controller.specs.Tick.{accepted, chargeFrames}
 use Rattle.controller.specs.Start.{freshOf, startWith, startOf}
-use Rattle.demands.specs.Says.{Says}
+use Rattle.demands.specs.Says.{chargeOf, Says}
 use Rattle.demands.specs.Machine.{started, Using, paperNext, boxAfter}
 use Rattle.demands.specs.Apart.{Event, FrameReceived, TickMade, RecordWritten, RecordRead, callOf, accepts, readInto, isRead, after, noSession, queryIn, isQuery}
 use Rattle.demands.specs.Apart.{fromStation, reaches, reaching, Moment, AfterFrame, sentAt, moments, life, Alike}
-use Rattle.demands.proofs.View.{sessionMoved, queriesMoved, View, Refused, Asks, Charges, view}
+use Rattle.demands.proofs.View.{pf-is, sessionMoved, queriesMoved, View, Refused, Asks, Charges, view}
 use Rattle.demands.proofs.Comes.{Comes, Left, Took, came, kept-settings, station-is}
 
 read-into : (a : SettingsRead) (c : Controller) → started (startWith a) (Using c) ≡ Using (readInto a c)
@@ -54,7 +55,7 @@ after-is c (RecordRead s) = read-into (readOf s) c
 -- by what it says a source is the frame's source, and the frame is no query
 pub says-from : (x : Settings) (st : ℕ) (m : ChargeMessage) (id : ℕ) (s : List ℕ) → Says x st m id s → fromStation st id ≡ true
 unfolding fromStation isQuery queryIn
-says-from x st m id s h = rw (h .source, eq-eqb st st refl, h .pf)
+says-from x st m id s h = rw (h .source, eq-eqb st st refl, pf-is (x .own) id s (message.Charge (chargeOf m)) (h .checks))
 
 unreached-stays : (c : Controller) (id : ℕ) (s : List ℕ) (a : Answer) → Comes c id s a → noSession c ≡ false
     → fromStation (c .session .station) id ≡ false → a .controller .session ≡ c .session
@@ -155,7 +156,7 @@ module _ (c d : Controller) (a : Alike c d) where
   by-case id l (Asks q h each) =
       rw (each c refl, each d (rw (a .settings)))
       (record { alike = record { settings = a .settings; session = a .session }; number = λ f. absurd (false≢true (sym f ∙ h)) })
-  by-case id l (Charges k p each) =
+  by-case id l (Charges k h p each) =
       rw (each c refl, each d (rw (a .settings)))
       (record { alike = record { settings = a .settings; session = rw (a .settings, a .session) }; number = λ f. rw (a .settings, a .session) })
 

@@ -25,51 +25,34 @@ use Rattle.controller.specs.declared.Answer.{Answer}
 use Rattle.refusals.specs.Frame.{isIdle, listed}
 use Rattle.controller.specs.Frame.{refused, mayCharge, frameTo}
 use Rattle.demands.specs.Apart.{chargeIn, queryIn, isCharge, isQuery}
+use Rattle.demands.specs.Checks.{messageIn}
 use Rattle.demands.specs.Says.{chargeOf, Says}
 use Rattle.demands.proofs.Tests.{second}
-use Rattle.demands.proofs.View.{sessionMoved, queriesMoved, contentOn, chargeOn, Clear, View, Refused, Asks, Charges, clear-charges, view}
+use Rattle.demands.proofs.View.{sessionMoved, queriesMoved, contentOn, chargeOn, View, Refused, Asks, Charges, each-charge, view}
 
--- both ways of a test come to the same
-pub same : {A B : Type 0} (f : A → B) (t : Bool) {x y : A} {z : B} → f x ≡ z → f y ≡ z → f (cond t x y) ≡ z
-same f true h k = h
-same f false h k = k
+-- allowed content is of the message that the PF says, and other content is refused by 10
+unfoldable ContentOf : Charge → Content → Type 0
+ContentOf k (content.Allowed m) = chargeOf m ≡ k
+ContentOf k (content.Refused n) = n ≡ 10
 
-unfoldable kindIn : Charge → Content → Charge
-kindIn k (content.Allowed m) = chargeOf m
-kindIn k (content.Refused n) = k
+either : (k : Charge) (t : Bool) (a b : Content) → ContentOf k a → ContentOf k b → ContentOf k (cond t a b)
+either k true a b h i = h
+either k false a b h i = i
 
-kind-in : (k : Charge) (s : List ℕ) → kindIn k (contentOf k s) ≡ k
-unfolding contentOf kindIn
-kind-in charge.Cim s = same (kindIn charge.Cim) (eqb (getD s 0 0) 0x01 && (eqb (getD s 1 0) 0x01 && eqb (getD s 2 0) 0x00)) refl refl
-kind-in charge.Cvm s = same (kindIn charge.Cvm) (eqb (getD s 0 0) 0xaa) refl (same (kindIn charge.Cvm) (eqb (getD s 0 0) 0x00) refl refl)
-kind-in charge.Cmp s = refl
-kind-in charge.Crm s =
-    same (kindIn charge.Crm) (eqb (getD s 0 0) 0xaa) refl
-    (same (kindIn charge.Crm) (eqb (getD s 0 0) 0x00) refl (same (kindIn charge.Crm) (eqb (getD s 0 0) 0xff) refl refl))
-kind-in charge.Ccs s = same (kindIn charge.Ccs) (eqb (getD s 4 0) 0x01) refl (same (kindIn charge.Ccs) (eqb (getD s 4 0) 0x00) refl refl)
-kind-in charge.Cst s = same (kindIn charge.Cst) (eqb (getD s 2 0) 0xaa) refl (same (kindIn charge.Cst) (eqb (getD s 2 0) 0x00) refl refl)
-kind-in charge.Cem s = same (kindIn charge.Cem) (eqb (getD s 2 0) 0xaa) refl (same (kindIn charge.Cem) (eqb (getD s 2 0) 0x00) refl refl)
+content-of : (k : Charge) (s : List ℕ) → ContentOf k (contentOf k s)
+unfolding contentOf ContentOf
+content-of charge.Cim s = either charge.Cim (eqb (getD s 0 0) 0x01 && (eqb (getD s 1 0) 0x01 && eqb (getD s 2 0) 0x00)) _ _ refl refl
+content-of charge.Cvm s = either charge.Cvm (eqb (getD s 0 0) 0xaa) _ _ refl (either charge.Cvm (eqb (getD s 0 0) 0x00) _ _ refl refl)
+content-of charge.Cmp s = refl
+content-of charge.Crm s =
+    either charge.Crm (eqb (getD s 0 0) 0xaa) _ _ refl
+    (either charge.Crm (eqb (getD s 0 0) 0x00) _ _ refl (either charge.Crm (eqb (getD s 0 0) 0xff) _ _ refl refl))
+content-of charge.Ccs s = either charge.Ccs (eqb (getD s 4 0) 0x01) _ _ refl (either charge.Ccs (eqb (getD s 4 0) 0x00) _ _ refl refl)
+content-of charge.Cst s = either charge.Cst (eqb (getD s 2 0) 0xaa) _ _ refl (either charge.Cst (eqb (getD s 2 0) 0x00) _ _ refl refl)
+content-of charge.Cem s = either charge.Cem (eqb (getD s 2 0) 0xaa) _ _ refl (either charge.Cem (eqb (getD s 2 0) 0x00) _ _ refl refl)
 
--- content that is not allowed has number 10
-unfoldable tenIn : Content → ℕ
-tenIn (content.Allowed m) = 10
-tenIn (content.Refused n) = n
-
-ten-in : (k : Charge) (s : List ℕ) → tenIn (contentOf k s) ≡ 10
-unfolding contentOf tenIn
-ten-in charge.Cim s = same tenIn (eqb (getD s 0 0) 0x01 && (eqb (getD s 1 0) 0x01 && eqb (getD s 2 0) 0x00)) refl refl
-ten-in charge.Cvm s = same tenIn (eqb (getD s 0 0) 0xaa) refl (same tenIn (eqb (getD s 0 0) 0x00) refl refl)
-ten-in charge.Cmp s = refl
-ten-in charge.Crm s =
-    same tenIn (eqb (getD s 0 0) 0xaa) refl (same tenIn (eqb (getD s 0 0) 0x00) refl (same tenIn (eqb (getD s 0 0) 0xff) refl refl))
-ten-in charge.Ccs s = same tenIn (eqb (getD s 4 0) 0x01) refl (same tenIn (eqb (getD s 4 0) 0x00) refl refl)
-ten-in charge.Cst s = same tenIn (eqb (getD s 2 0) 0xaa) refl (same tenIn (eqb (getD s 2 0) 0x00) refl refl)
-ten-in charge.Cem s = same tenIn (eqb (getD s 2 0) 0xaa) refl (same tenIn (eqb (getD s 2 0) 0x00) refl refl)
-
--- the kind of a message is that of its content
-kind-of : (k : Charge) (s : List ℕ) (m : ChargeMessage) → contentOf k s ≡ content.Allowed m → chargeOf m ≡ k
-unfolding kindIn
-kind-of k s m h = ap (kindIn k) (sym h) ∙ kind-in k s
+content-is : (k : Charge) (s : List ℕ) (m : Content) → contentOf k s ≡ m → ContentOf k m
+content-is k s m e = subst (ContentOf k) e (content-of k s)
 
 -- a frame is not both
 one-kind : (r : Recognized) → queryIn r ≡ true → chargeIn r ≡ true → ⊥
@@ -100,28 +83,19 @@ module _ (c : Controller) (id : ℕ) (s : List ℕ) where
   refusal : (n : ℕ) → (isCharge id ≡ true → n ≡ 0 → ⊥) → Comes c id s (refused n c)
   refusal n h = Left refl refl (λ e. record { answer = refl; number = h e })
 
-  clear-says : (k : Charge) (m : ChargeMessage) → Clear (c .settings .own) id s k → contentOf k s ≡ content.Allowed m
-      → Says (c .settings) source m id s
-  clear-says k m p e =
-      let q : chargeOf m ≡ k = kind-of k s m e in
-      record {
-        can = p .can;
-        flags = p .flags;
-        target = p .target;
-        other = p .other;
-        source = refl;
-        pf = rw q (p .pf);
-        long = rw q (p .long);
-        content = rw q e;
-      }
+  charge-says : (k : Charge) (m : ChargeMessage) → messageIn (c .settings .own) id s ≡ recognized.As (message.Charge k)
+      → contentOf k s ≡ content.Allowed m → Says (c .settings) source m id s
+  unfolding ContentOf
+  charge-says k m p e = let q : chargeOf m ≡ k = content-is k s (content.Allowed m) e in record { checks = rw q p; source = refl; content = rw q e }
 
   -- 9, 10, or taken
-  charge-comes : (k : Charge) → Clear (c .settings .own) id s k → (t : Bool) → mayCharge c source ≡ t → (m : Content) → contentOf k s ≡ m
+  charge-comes : (k : Charge) → messageIn (c .settings .own) id s ≡ recognized.As (message.Charge k) → (t : Bool) → mayCharge c source ≡ t
+      → (m : Content) → contentOf k s ≡ m
       → Comes c id s (sessionMoved c (cond t (contentOn (c .settings) source (c .session) m) (record { number = 9; session = c .session })))
-  unfolding sessionMoved contentOn tenIn
-  charge-comes k p true may (content.Allowed m) e = Took m (clear-says k m p e) may refl
+  unfolding sessionMoved contentOn ContentOf
+  charge-comes k p true may (content.Allowed m) e = Took m (charge-says k m p e) may refl
   charge-comes k p true may (content.Refused n) e =
-      refusal n (λ h z. let t : n ≡ 10 = ap tenIn (sym e) ∙ ten-in k s in omega (arith, z, t))
+      refusal n (λ h z. let t : n ≡ 10 = content-is k s (content.Refused n) e in omega (arith, z, t))
   charge-comes k p false may m e = refusal 9 (λ h z. omega (arith, z))
 
   comes-as : {a b : Answer} → a ≡ b → Comes c id s b → Comes c id s a
@@ -131,20 +105,17 @@ module _ (c : Controller) (id : ℕ) (s : List ℕ) where
   unfolding queriesMoved chargeOn mayCharge
   by-case (Refused n h each) = comes-as (each c refl) (refusal n h)
   by-case (Asks q h each) = comes-as (each c refl) (Left refl refl (λ e. absurd (not-both id h e)))
-  by-case (Charges k p each) = comes-as (each c refl) (charge-comes k p (mayCharge c source) refl (contentOf k s) refl)
+  by-case (Charges k h p each) = comes-as (each c refl) (charge-comes k p (mayCharge c source) refl (contentOf k s) refl)
 
   pub came : Comes c id s (frameTo c id s)
   came = by-case (view (c .settings .own) id s)
 
   -- and the other way: what a source says by a frame, a session takes if it may charge, and refuses with 9 if not
   module _ (st : ℕ) (m : ChargeMessage) (h : Says (c .settings) st m id s) where
-    clear : Clear (c .settings .own) id s (chargeOf m)
-    clear = record { can = h .can; flags = h .flags; target = h .target; other = h .other; pf = h .pf; long = h .long }
-
     said : (t : Bool) → mayCharge c st ≡ t
         → frameTo c id s ≡ sessionMoved c (cond t (messageOf (c .settings) st (c .session) m) (record { number = 9; session = c .session }))
     unfolding chargeOn contentOn mayCharge
-    said t may = clear-charges (c .settings .own) id s (chargeOf m) clear c refl ∙ rw (h .source, h .content, may)
+    said t may = each-charge (c .settings .own) id s (chargeOf m) (h .checks) c refl ∙ rw (h .source, h .content, may)
 
     pub says-taken : mayCharge c st ≡ true → frameTo c id s ≡ sessionMoved c (messageOf (c .settings) st (c .session) m)
     says-taken = said true

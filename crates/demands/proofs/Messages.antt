@@ -17,7 +17,7 @@ use Rattle.session.specs.Message.{sessionAfter}
 use Rattle.refusals.specs.Frame.{isIdle}
 use Rattle.demands.specs.Kinds.{isCharging, isStopping}
 use Rattle.demands.specs.Ends.{messageEnds, messageLeaves}
-use Rattle.demands.proofs.Comes.{same}
+use Rattle.demands.proofs.Tests.{same}
 
 abbrev pub mk : ℕ → ℕ → ℕ → State → Session
 mk station silence count st = record { station = station; silence = silence; count = count; state = st }

@@ -32,20 +32,20 @@ unfolding sessionMoved noSession
 frame-says c m id s h o = ap (λ (a : Answer). a .controller .session) (taken-in c id s m o h)
 
 -- a frame says one message
-unfoldable chargeIn : Recognized → Charge
-chargeIn (recognized.As (message.Charge k)) = k
-chargeIn (recognized.As (message.Query q)) = charge.Cim
-chargeIn (recognized.Refused n) = charge.Cim
+unfoldable kindIn : Recognized → Charge
+kindIn (recognized.As (message.Charge k)) = k
+kindIn (recognized.As (message.Query q)) = charge.Cim
+kindIn (recognized.Refused n) = charge.Cim
 
-unfoldable messageIn : Content → ChargeMessage
-messageIn (content.Allowed m) = m
-messageIn (content.Refused n) = Cim
+unfoldable allowedIn : Content → ChargeMessage
+allowedIn (content.Allowed m) = m
+allowedIn (content.Refused n) = Cim
 
 pub says-one : (x : Settings) (st : ℕ) (m w : ChargeMessage) (id : ℕ) (s : List ℕ) → Says x st m id s → Says x st w id s → m ≡ w
-unfolding chargeIn messageIn
+unfolding kindIn allowedIn
 says-one x st m w id s h k =
-    let e : chargeOf m ≡ chargeOf w = ap chargeIn (sym (h .pf) ∙ k .pf) in
-    ap messageIn (sym (h .content) ∙ (ap (λ (z : Charge). contentOf z s) e ∙ k .content))
+    let e : chargeOf m ≡ chargeOf w = ap kindIn (sym (h .checks) ∙ k .checks) in
+    ap allowedIn (sym (h .content) ∙ (ap (λ (z : Charge). contentOf z s) e ∙ k .content))
 
 -- ---- what the station says by a frame, if anything
 pub data Spoken (c : Controller) (id : ℕ) (s : List ℕ) (a : Answer) : Type 0 where

@@ -3,7 +3,7 @@
 -- nothing.
 use Prim.Native.Nat.{ℕ, _+_, _<_}
 use native.Mathlib.Omega.{arith}
-use mathlib.Core.Path.{_≡_, refl, sym}
+use mathlib.Core.Path.{_≡_, refl, ap}
 use mathlib.Core.Bool.{true, false, false≢true}
 use mathlib.Core.List.{List, [], _∷_}
 use lib.IntN.{pos}
@@ -16,8 +16,9 @@ use Rattle.charge_messages.specs.Content.{contentOf}
 use Rattle.outcomes.specs.Offer.{acceptedOf}
 use Rattle.controller.specs.Start.{freshOf}
 use Rattle.refusals.specs.Frame.{notCan, flagsSet, notForUs, badSource, listed}
-use Rattle.demands.specs.Apart.{Event, FrameReceived, TickMade, afterAll, isQuery, queryIn, fromStation, reaches, reaching}
+use Rattle.demands.specs.Apart.{chargeIn, Event, FrameReceived, TickMade, afterAll, isQuery, queryIn, fromStation, reaches, reaching}
 use Rattle.demands.specs.Silent.{isAcceptedTick, ticksIn}
+use Rattle.demands.specs.Checks.{longEnough, messageIn}
 use Rattle.demands.specs.Says.{Says}
 use Rattle.demands.specs.Reach.{chargingWith, Stretch, UntilCvm, UntilVerified, UntilCmp, UntilCrm, besides}
 use Rattle.demands.specs.Reach.{Passing, Follows, Passes, Ticks, Speaks, Delays, VerifiesLater, Verifies, Offers, Starts}
@@ -71,33 +72,30 @@ unfolding listed
 is-listed = refl
 
 -- ---- the frames say what they are to say
+record AllSay : Type 0 where
+  cim : Says ours 0x56 Cim 0x1826_f456 cimData
+  cvm-00 : Says ours 0x56 (Cvm false) 0x1801_f456 (0x00 ∷ [])
+  cvm-aa : Says ours 0x56 (Cvm true) 0x1801_f456 (0xaa ∷ [])
+  cmp : Says ours 0x56 (Cmp offer) 0x1808_f456 cmpData
+  low : Says ours 0x56 (Cmp lowOffer) 0x1808_f456 lowData
+  crm-ff : Says ours 0x56 (Crm false) 0x180a_f456 (0xff ∷ [])
+  crm-aa : Says ours 0x56 (Crm true) 0x180a_f456 (0xaa ∷ [])
+
+all-say : AllSay
+unfolding messageIn longEnough notCan flagsSet notForUs badSource partsOf contentOf
+all-say =
+    record {
+      cim = record { checks = refl; source = refl; content = refl };
+      cvm-00 = record { checks = refl; source = refl; content = refl };
+      cvm-aa = record { checks = refl; source = refl; content = refl };
+      cmp = record { checks = refl; source = refl; content = refl };
+      low = record { checks = refl; source = refl; content = refl };
+      crm-ff = record { checks = refl; source = refl; content = refl };
+      crm-aa = record { checks = refl; source = refl; content = refl };
+    }
+
 pub says-cim : Says ours 0x56 Cim 0x1826_f456 cimData
-unfolding notCan flagsSet notForUs badSource partsOf contentOf
-says-cim = record { can = refl; flags = refl; target = refl; other = refl; source = refl; pf = refl; long = refl; content = refl }
-
-says-cvm-00 : Says ours 0x56 (Cvm false) 0x1801_f456 (0x00 ∷ [])
-unfolding notCan flagsSet notForUs badSource partsOf contentOf
-says-cvm-00 = record { can = refl; flags = refl; target = refl; other = refl; source = refl; pf = refl; long = refl; content = refl }
-
-says-cvm-aa : Says ours 0x56 (Cvm true) 0x1801_f456 (0xaa ∷ [])
-unfolding notCan flagsSet notForUs badSource partsOf contentOf
-says-cvm-aa = record { can = refl; flags = refl; target = refl; other = refl; source = refl; pf = refl; long = refl; content = refl }
-
-says-cmp : Says ours 0x56 (Cmp offer) 0x1808_f456 cmpData
-unfolding notCan flagsSet notForUs badSource partsOf contentOf
-says-cmp = record { can = refl; flags = refl; target = refl; other = refl; source = refl; pf = refl; long = refl; content = refl }
-
-says-low : Says ours 0x56 (Cmp lowOffer) 0x1808_f456 lowData
-unfolding notCan flagsSet notForUs badSource partsOf contentOf
-says-low = record { can = refl; flags = refl; target = refl; other = refl; source = refl; pf = refl; long = refl; content = refl }
-
-says-crm-ff : Says ours 0x56 (Crm false) 0x180a_f456 (0xff ∷ [])
-unfolding notCan flagsSet notForUs badSource partsOf contentOf
-says-crm-ff = record { can = refl; flags = refl; target = refl; other = refl; source = refl; pf = refl; long = refl; content = refl }
-
-says-crm-aa : Says ours 0x56 (Crm true) 0x180a_f456 (0xaa ∷ [])
-unfolding notCan flagsSet notForUs badSource partsOf contentOf
-says-crm-aa = record { can = refl; flags = refl; target = refl; other = refl; source = refl; pf = refl; long = refl; content = refl }
+says-cim = all-say .cim
 
 -- ---- the events
 abbrev cim : Event
@@ -135,14 +133,14 @@ follows-eight : Follows ours 0x56 offer UntilCvm 0 0 (reaching 0x56 eight)
 unfolding eight reaching reaches fromStation isQuery queryIn partsOf
 follows-eight =
     on UntilCvm 0 0 _ (omega arith)
-    (Verifies says-cvm-aa (omega arith)
+    (Verifies (all-say .cvm-aa) (omega arith)
     (on UntilCmp 0 0 _ (omega arith)
     (on UntilCmp 1 1 _ (omega arith)
     (on UntilCmp 2 2 _ (omega arith)
     (on UntilCmp 3 3 _ (omega arith)
     (on UntilCmp 4 4 _ (omega arith)
     (on UntilCmp 5 5 _ (omega arith)
-    (Offers says-cmp yes-rule (omega arith) (on UntilCrm 0 0 _ (omega arith) (Starts says-crm-aa (omega arith)))))))))))
+    (Offers (all-say .cmp) yes-rule (omega arith) (on UntilCrm 0 0 _ (omega arith) (Starts (all-say .crm-aa) (omega arith)))))))))))
 
 -- from a fresh controller, by the CIM and what follows
 charges : (es : List Event) → Follows ours 0x56 offer UntilCvm 0 0 (reaching 0x56 es)
@@ -184,42 +182,42 @@ unfolding Passing
 cim-passes m h = says-one ours 0x56 m Cim 0x1826_f456 cimData h says-cim
 
 cst-passes : Passing ours 0x56 cst-to-55
-unfolding Passing notForUs partsOf
-cst-passes m h = absurd (false≢true (sym (h .target)))
+unfolding Passing messageIn notCan flagsSet notForUs partsOf chargeIn
+cst-passes m h = absurd (false≢true (ap chargeIn (h .checks)))
 
 -- what of it reaches the session
 follows-crm : Follows ours 0x56 offer UntilCrm 0 0 (crm-aa ∷ tick ∷ crm-ff ∷ cst-to-55 ∷ tick ∷ crm-aa ∷ [])
 unfolding besides
 follows-crm =
-    Speaks says-crm-aa refl
+    Speaks (all-say .crm-aa) refl
     (on UntilCrm 0 0 _ (omega arith)
-    (Speaks says-crm-ff refl (Passes cst-passes (on UntilCrm 1 0 _ (omega arith) (Starts says-crm-aa (omega arith))))))
+    (Speaks (all-say .crm-ff) refl (Passes cst-passes (on UntilCrm 1 0 _ (omega arith) (Starts (all-say .crm-aa) (omega arith))))))
 
 follows-cmp : Follows ours 0x56 offer UntilCmp 0 0
     (crm-aa ∷ cmp ∷ cvm-aa ∷ tick ∷ tick ∷ tick ∷ tick ∷ tick ∷ tick ∷ low-cmp ∷ tick ∷ crm-ff
     ∷ cmp ∷ crm-aa ∷ tick ∷ crm-ff ∷ cst-to-55 ∷ tick ∷ crm-aa ∷ [])
 unfolding besides
 follows-cmp =
-    Speaks says-crm-aa refl
-    (Speaks says-cmp refl
-    (Speaks says-cvm-aa refl
+    Speaks (all-say .crm-aa) refl
+    (Speaks (all-say .cmp) refl
+    (Speaks (all-say .cvm-aa) refl
     (on UntilCmp 0 0 _ (omega arith)
     (on UntilCmp 1 1 _ (omega arith)
     (on UntilCmp 2 2 _ (omega arith)
     (on UntilCmp 3 3 _ (omega arith)
     (on UntilCmp 4 4 _ (omega arith)
     (on UntilCmp 5 5 _ (omega arith)
-    (Speaks says-low refl
-    (on UntilCmp 6 0 _ (omega arith) (Speaks says-crm-ff refl (Offers says-cmp yes-rule (omega arith) follows-crm))))))))))))
+    (Speaks (all-say .low) refl
+    (on UntilCmp 6 0 _ (omega arith) (Speaks (all-say .crm-ff) refl (Offers (all-say .cmp) yes-rule (omega arith) follows-crm))))))))))))
 
 follows-busy : Follows ours 0x56 offer UntilCvm 0 0 (reaching 0x56 busy)
 unfolding busy reaching reaches fromStation isQuery queryIn partsOf besides
 follows-busy =
-    Speaks says-cvm-aa refl
+    Speaks (all-say .cvm-aa) refl
     (Speaks says-cim refl
     (on UntilCvm 0 0 _ (omega arith)
-    (Delays says-cvm-00 (omega arith)
-    (Passes cim-passes (on UntilVerified 0 0 _ (omega arith) (Speaks says-cvm-00 refl (VerifiesLater says-cvm-aa follows-cmp)))))))
+    (Delays (all-say .cvm-00) (omega arith)
+    (Passes cim-passes (on UntilVerified 0 0 _ (omega arith) (Speaks (all-say .cvm-00) refl (VerifiesLater (all-say .cvm-aa) follows-cmp)))))))
 
 -- Charging all the same
 pub busy-charges : afterAll (freshOf ours) (cim ∷ busy) .session ≡ chargingWith ours 0x56 offer

@@ -24,7 +24,7 @@ use Rattle.demands.specs.Apart.{FrameReceived, noSession, fromStation}
 use Rattle.demands.specs.Says.{Says}
 use Rattle.demands.specs.Kinds.{isStopping}
 use Rattle.demands.specs.Silent.{feeds, Unheeded}
-use Rattle.demands.proofs.Comes.{same}
+use Rattle.demands.proofs.Tests.{same}
 use Rattle.demands.proofs.Apart.{says-from}
 use Rattle.demands.proofs.ReachFrames.{frame-says, Spoken, Unsaid, Said, spoken}
 

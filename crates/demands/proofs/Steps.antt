@@ -70,7 +70,7 @@ by-case : (c : Controller) (id : ℕ) (s : List ℕ) → View (c .settings .own)
 unfolding codeOf sessionMoved queriesMoved
 by-case c id s (Refused n h each) = rw (each c refl, each (codeOf c) refl)
 by-case c id s (Asks q h each) = rw (each c refl, each (codeOf c) refl)
-by-case c id s (Charges k p each) =
+by-case c id s (Charges k h p each) =
     rw (each c refl, each (codeOf c) refl)
     (ap (sessionMoved (codeOf c)) (charge-folds (c .settings) (partsOf id .source) (c .session) k s))
 

@@ -23,3 +23,8 @@ first false u v h e = absurd (false≢true h)
 pub second : (t u v : Bool) → t ≡ false → cond t u v ≡ true → v ≡ true
 second true u v h e = absurd (false≢true (sym h))
 second false u v h e = e
+
+-- both ways of a test come to the same
+pub same : {A B : Type 0} (f : A → B) (t : Bool) {x y : A} {z : B} → f x ≡ z → f y ≡ z → f (cond t x y) ≡ z
+same f true h k = h
+same f false h k = k

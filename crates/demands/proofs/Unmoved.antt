@@ -4,7 +4,6 @@ use mathlib.Core.Path.{_≡_, refl, ap, sym, _∙_}
 use mathlib.Core.Bool.{Bool, true, false, cond, false≢true}
 use mathlib.Core.List.{List, [], _∷_, _++_}
 use lib.IntN.{ℤ}
-use Rattle.messages.specs.declared.received.Charge.{Charge}
 use Rattle.settings.specs.declared.SettingsRead.{SettingsRead}
 use Rattle.settings.specs.declared.SettingsRead.the-variants as read
 use Rattle.settings.specs.Read.{readOf}
@@ -14,9 +13,9 @@ use Rattle.controller.specs.declared.Answer.{Answer}
 use Rattle.controller.specs.Frame.{frameTo}
 use Rattle.controller.specs.Tick.{broadcastFrames, cellFrames}
 use Rattle.demands.specs.Machine.{paperNext}
-use Rattle.demands.specs.Apart.{Event, FrameReceived, TickMade, RecordWritten, RecordRead, accepts, readInto, after, chargeIn, isCharge}
+use Rattle.demands.specs.Apart.{Event, FrameReceived, TickMade, RecordWritten, RecordRead, accepts, readInto, after, isCharge}
 use Rattle.demands.specs.Unmoved.{isChargeMessage, others, Output, broadcastsAt, cellsAt, outputAt, outputs, Beside}
-use Rattle.demands.proofs.View.{sessionMoved, queriesMoved, Clear, View, Refused, Asks, Charges, view}
+use Rattle.demands.proofs.View.{sessionMoved, queriesMoved, View, Refused, Asks, Charges, view}
 use Rattle.demands.proofs.Comes.{Comes, Left, Took, came}
 
 -- ---- a charge message leaves all but the session
@@ -30,10 +29,6 @@ record BesideAfter (a b : Answer) : Type 0 where
   beside : Beside (a .controller) (b .controller)
   number : a .number ≡ b .number
 
-clear-charge : (own id : ℕ) (l : List ℕ) (k : Charge) → Clear own id l k → isCharge id ≡ true
-unfolding isCharge chargeIn
-clear-charge own id l k p = rw (p .pf)
-
 -- ---- two controllers that agree beside their sessions go on so, and say the same
 module _ (c d : Controller) (a : Beside c d) where
   by-case : (id : ℕ) (l : List ℕ) → View (c .settings .own) id l → isCharge id ≡ false → BesideAfter (frameTo c id l) (frameTo d id l)
@@ -42,7 +37,7 @@ module _ (c d : Controller) (a : Beside c d) where
   by-case id l (Asks q h each) f =
       rw (each c refl, each d (rw (a .settings)))
       (record { beside = record { settings = a .settings; beat = a .beat; queries = rw (a .queries) }; number = rw (a .queries) })
-  by-case id l (Charges k p each) f = absurd (false≢true (sym f ∙ clear-charge (c .settings .own) id l k p))
+  by-case id l (Charges k h p each) f = absurd (false≢true (sym f ∙ h))
 
   same-frame : (id : ℕ) (l : List ℕ) → isCharge id ≡ false → BesideAfter (frameTo c id l) (frameTo d id l)
   same-frame id l = by-case id l (view (c .settings .own) id l)

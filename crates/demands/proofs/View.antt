@@ -2,7 +2,7 @@
 -- it is a charge message. The checks ask nothing of a controller but its own address, so controllers with the same address are in the same
 -- case, and each case tells what each of them answers. No other file looks into the checks. Assumes nothing.
 use Prim.Native.Nat.{ℕ}
-use mathlib.Core.Path.{_≡_, refl, ap, sym, _∙_}
+use mathlib.Core.Path.{_≡_, refl, ap, subst, _∙_}
 use mathlib.Core.Bool.{Bool, true, false, cond, false≢true}
 use mathlib.Core.List.{List}
 use native.Mathlib.Omega.{arith}
@@ -10,6 +10,7 @@ use lib.Dec.{ltb}
 use lib.ListN.{length}
 use Rattle.messages.specs.declared.received.Charge.{Charge}
 use Rattle.messages.specs.declared.received.Query.{Query}
+use Rattle.messages.specs.declared.received.Message.{Message}
 use Rattle.messages.specs.declared.received.Message.the-variants as message
 use Rattle.messages.specs.declared.received.Recognized.{Recognized}
 use Rattle.messages.specs.declared.received.Recognized.the-variants as recognized
@@ -30,22 +31,10 @@ use Rattle.controller.specs.declared.Answer.{Answer}
 use Rattle.controller.specs.Frame as core
 use Rattle.controller.specs.Frame.{refused, mayCharge, contentTaken, chargeTo, kindOf, queryTo, knownTo, frameTo}
 use Rattle.demands.specs.With.{withSession, withQueries}
+use Rattle.demands.specs.Checks.{longEnough, messageIn}
 use Rattle.demands.specs.Apart.{chargeIn, queryIn, isCharge, isQuery}
 
 -- ---- the core's answer to a frame, in one equation
--- 8: shorter than its least length; what 7 has refused stays refused
-unfoldable pub longEnough : List ℕ → Recognized → Recognized
-longEnough s (recognized.As m) = cond (ltb (length s) (rowOf m .2)) (recognized.Refused 8) (recognized.As m)
-longEnough s (recognized.Refused n) = recognized.Refused n
-
--- 3 to 8, in numeric order: the message in a frame, or the number of the first check that refuses it
-unfoldable pub messageIn : ℕ → ℕ → List ℕ → Recognized
-messageIn own id s =
-    cond (notCan id s) (recognized.Refused 3)
-    (cond (flagsSet (partsOf id)) (recognized.Refused 4)
-    (cond (notForUs own (partsOf id)) (recognized.Refused 5)
-    (cond (badSource own (partsOf id)) (recognized.Refused 6) (longEnough s (recognizedOf (partsOf id .pf))))))
-
 -- the session moved on, and nothing else of the controller
 unfoldable pub sessionMoved : Controller → Taken → Answer
 sessionMoved c t = record { number = t .number; controller = withSession c (t .session) }
@@ -102,17 +91,38 @@ charge-on c source k s = both (mayCharge c source) (contentOf k s)
     both true (content.Refused n) = refl
     both false m = refl
 
--- ---- the cases
--- none of 3 to 8 refuses it, and it is this charge message
-pub record Clear (own id : ℕ) (s : List ℕ) (k : Charge) : Type 0 where
-  pub can : notCan id s ≡ false
-  pub flags : flagsSet (partsOf id) ≡ false
-  pub target : notForUs own (partsOf id) ≡ false
-  pub other : badSource own (partsOf id) ≡ false
-  pub pf : recognizedOf (partsOf id .pf) ≡ recognized.As (message.Charge k)
-  pub long : ltb (length s) (rowOf (message.Charge k) .2) ≡ false
+-- ---- what the checks tell of a frame's PF: what they make a message is that message, and they refuse no charge message by 0
+unfoldable Fits : Recognized → Recognized → Type 0
+Fits p (recognized.As m) = p ≡ recognized.As m
+Fits p (recognized.Refused n) = chargeIn p ≡ true → n ≡ 0 → ⊥
 
 module _ (own id : ℕ) (s : List ℕ) where
+  either : (p : Recognized) (t : Bool) (a b : Recognized) → Fits p a → Fits p b → Fits p (cond t a b)
+  either p true a b h k = h
+  either p false a b h k = k
+
+  long-fits : (p : Recognized) → Fits p (longEnough s p)
+  unfolding longEnough Fits chargeIn
+  long-fits (recognized.As m) = either (recognized.As m) (ltb (length s) (rowOf m .2)) _ _ (λ e z. omega (arith, z)) refl
+  long-fits (recognized.Refused n) = λ e z. false≢true e
+
+  fits : Fits (recognizedOf (partsOf id .pf)) (messageIn own id s)
+  unfolding messageIn Fits
+  fits =
+      let p = recognizedOf (partsOf id .pf) in
+      either p (notCan id s) _ _ (λ e z. omega (arith, z))
+      (either p (flagsSet (partsOf id)) _ _ (λ e z. omega (arith, z))
+      (either p (notForUs own (partsOf id)) _ _ (λ e z. omega (arith, z))
+      (either p (badSource own (partsOf id)) _ _ (λ e z. omega (arith, z)) (long-fits p))))
+
+  fits-as : (r : Recognized) → messageIn own id s ≡ r → Fits (recognizedOf (partsOf id .pf)) r
+  fits-as r e = subst (Fits (recognizedOf (partsOf id .pf))) e fits
+
+  pub pf-is : (m : Message) → messageIn own id s ≡ recognized.As m → recognizedOf (partsOf id .pf) ≡ recognized.As m
+  unfolding Fits
+  pf-is m e = fits-as (recognized.As m) e
+
+  -- ---- the cases
   -- each controller with this address answers the frame so
   abbrev pub Each : (Controller → Answer) → Type 0
   Each answer = (c : Controller) → c .settings .own ≡ own → frameTo c id s ≡ answer c
@@ -123,44 +133,25 @@ module _ (own id : ℕ) (s : List ℕ) where
     -- a query, answered by the waiting queries: 12, 13 or 0
     Asks : (q : Query) → isQuery id ≡ true → Each (λ c. queriesMoved c (askedOf (c .queries) (partsOf id .source) (kindOf q))) → View
     -- a charge message, answered by settings and session: 9, 10, 11 or 0
-    Charges : (k : Charge) → Clear own id s k
+    Charges : (k : Charge) → isCharge id ≡ true → messageIn own id s ≡ recognized.As (message.Charge k)
         → Each (λ c. sessionMoved c (chargeOn (c .settings) (partsOf id .source) k s (c .session))) → View
 
   each : (r : Recognized) → messageIn own id s ≡ r → Each (λ c. messageTo c (partsOf id .source) s r)
   each r e c h =
       frame-view c id s ∙ ap (messageTo c (partsOf id .source) s) (ap (λ (o : ℕ). messageIn o id s) h ∙ e)
 
-  -- and the other way: what 3 to 8 do not refuse is answered so
-  pub clear-charges : (k : Charge) → Clear own id s k → Each (λ c. sessionMoved c (chargeOn (c .settings) (partsOf id .source) k s (c .session)))
-  unfolding messageIn longEnough messageTo
-  clear-charges k p c h =
-      each (recognized.As (message.Charge k)) (rw (p .can, p .flags, p .target, p .other, p .pf, p .long)) c h
-      ∙ charge-on c (partsOf id .source) k s
+  -- and the other way: what 3 to 8 make a charge message is answered so
+  pub each-charge : (k : Charge) → messageIn own id s ≡ recognized.As (message.Charge k)
+      → Each (λ c. sessionMoved c (chargeOn (c .settings) (partsOf id .source) k s (c .session)))
+  unfolding messageTo
+  each-charge k e c h = each (recognized.As (message.Charge k)) e c h ∙ charge-on c (partsOf id .source) k s
 
-  test : (t : Bool) → (t ≡ true → View) → (t ≡ false → View) → View
-  test true h k = h refl
-  test false h k = k refl
+  in-case : (r : Recognized) → messageIn own id s ≡ r → View
+  unfolding messageTo queryTo queriesMoved core.withQueries isCharge isQuery chargeIn queryIn Fits
+  in-case (recognized.As (message.Charge k)) e = Charges k (ap chargeIn (pf-is (message.Charge k) e)) e (each-charge k e)
+  in-case (recognized.As (message.Query q)) e =
+      Asks q (ap queryIn (pf-is (message.Query q) e)) (each (recognized.As (message.Query q)) e)
+  in-case (recognized.Refused n) e = Refused n (fits-as (recognized.Refused n) e) (each (recognized.Refused n) e)
 
-  -- the one walk of the checks
   pub view : View
-  unfolding messageIn longEnough messageTo queryTo queriesMoved core.withQueries isCharge isQuery chargeIn queryIn
-  view =
-      test (notCan id s) (λ t. refuses 3 (λ z. omega (arith, z)) (rw t))
-      (λ t. test (flagsSet (partsOf id)) (λ u. refuses 4 (λ z. omega (arith, z)) (rw (t, u)))
-      (λ u. test (notForUs own (partsOf id)) (λ w. refuses 5 (λ z. omega (arith, z)) (rw (t, u, w)))
-      (λ w. test (badSource own (partsOf id)) (λ x. refuses 6 (λ z. omega (arith, z)) (rw (t, u, w, x)))
-      (λ x. known t u w x (recognizedOf (partsOf id .pf)) refl))))
-    where
-      refuses : (n : ℕ) → (n ≡ 0 → ⊥) → messageIn own id s ≡ recognized.Refused n → View
-      refuses n h e = Refused n (λ k. h) (each (recognized.Refused n) e)
-
-      known : notCan id s ≡ false → flagsSet (partsOf id) ≡ false → notForUs own (partsOf id) ≡ false → badSource own (partsOf id) ≡ false
-          → (r : Recognized) → recognizedOf (partsOf id .pf) ≡ r → View
-      known t u w x (recognized.As (message.Charge k)) h =
-          test (ltb (length s) (rowOf (message.Charge k) .2)) (λ l. refuses 8 (λ z. omega (arith, z)) (rw (t, u, w, x, h, l)))
-          (λ l. let p : Clear own id s k = record { can = t; flags = u; target = w; other = x; pf = h; long = l } in Charges k p (clear-charges k p))
-      known t u w x (recognized.As (message.Query q)) h =
-          test (ltb (length s) (rowOf (message.Query q) .2)) (λ l. refuses 8 (λ z. omega (arith, z)) (rw (t, u, w, x, h, l)))
-          (λ l. Asks q (ap queryIn h) (each (recognized.As (message.Query q)) (rw (t, u, w, x, h, l))))
-      known t u w x (recognized.Refused n) h =
-          Refused n (λ k. absurd (false≢true (sym (ap chargeIn h) ∙ k))) (each (recognized.Refused n) (rw (t, u, w, x, h)))
+  view = in-case (messageIn own id s) refl

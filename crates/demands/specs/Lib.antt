@@ -4,6 +4,7 @@ pub mod InStep
 pub mod Calls
 pub mod WorkedRows
 pub mod Kinds
+pub mod Checks
 pub mod Says
 pub mod Ends
 pub mod Over
