@@ -5,17 +5,12 @@ use Prim.Native.Nat.{_%_}
 use mathlib.Core.Path.{_≡_}
 use Rattle.literal.specs.Folds.{folds}
 use Rattle.controller.specs.declared.Controller.{Controller}
+use Rattle.demands.specs.With.{withSession, withBeat}
 use Rattle.demands.specs.Machine.{Box, NoController, Using}
 
 -- the session's counts folded, the number of accepted ticks modulo 60, settings and waiting queries the same
 unfoldable pub codeOf : Controller → Controller
-codeOf c =
-    record {
-      settings = c .settings;
-      session = folds (c .session);
-      beat = record { tick = c .beat .tick % 60 };
-      queries = c .queries;
-    }
+codeOf c = withBeat (withSession c (folds (c .session))) (record { tick = c .beat .tick % 60 })
 
 unfoldable pub codeBox : Box → Box
 codeBox NoController = NoController

@@ -23,6 +23,7 @@ use Rattle.controller.specs.Start.{startOf}
 use Rattle.controller.specs.Frame.{frameTo}
 use Rattle.refusals.specs.Tick.{tickNumber}
 use Rattle.controller.specs.Tick.{tickFrames, accepted}
+use Rattle.demands.specs.With.{withSession, withBeat, withQueries}
 
 -- a call, with all that it lends: a settings record; a received frame, identifier and data; a tick, its readings, voltages and
 -- temperatures and the buffer as it is; settings written, with the buffer as it is
@@ -46,12 +47,9 @@ pub data Seen : Type 0 where
 -- the next controller after an accepted tick, as the paper counts
 unfoldable pub paperNext : Controller → Readings → List ℕ → List ℤ → Controller
 paperNext c r v t =
-    record {
-      settings = c .settings;
-      session = literalTick (c .settings) r (cellsOf v t) (c .session);
-      beat = record { tick = c .beat .tick + 1 };
-      queries = queriesOf (answering.laterOf v t (waiting (c .queries)));
-    }
+    withQueries
+    (withBeat (withSession c (literalTick (c .settings) r (cellsOf v t) (c .session))) (record { tick = c .beat .tick + 1 }))
+    (queriesOf (answering.laterOf v t (waiting (c .queries))))
 
 -- a settings record that is refused yields no controller: the one in use stays
 unfoldable pub started : Start → Box → Box
