@@ -8,10 +8,13 @@ use Rattle.settings.specs.declared.SettingsRead.{SettingsRead}
 use Rattle.settings.specs.declared.SettingsRead.the-variants as read
 use Rattle.settings.specs.Read.{readOf}
 use Rattle.readings.specs.declared.Readings.{Readings}
+use Rattle.messages.specs.Identifier.{partsOf}
+use Rattle.queries.specs.Asking.{askedOf}
 use Rattle.controller.specs.declared.Controller.{Controller}
 use Rattle.controller.specs.declared.Answer.{Answer}
-use Rattle.controller.specs.Frame.{frameTo}
+use Rattle.controller.specs.Frame.{kindOf, frameTo}
 use Rattle.controller.specs.Tick.{broadcastFrames, cellFrames}
+use Rattle.demands.specs.With.{withSession}
 use Rattle.demands.specs.Machine.{paperNext}
 use Rattle.demands.specs.Apart.{Event, FrameReceived, TickMade, RecordWritten, RecordRead, accepts, readInto, after, isCharge}
 use Rattle.demands.specs.Unmoved.{isChargeMessage, others, Output, broadcastsAt, cellsAt, outputAt, outputs, Beside}
@@ -21,8 +24,8 @@ use Rattle.demands.proofs.Comes.{Comes, Left, Took, came}
 -- ---- a charge message leaves all but the session
 charge-leaves : (c : Controller) (id : ℕ) (l : List ℕ) (a : Answer) → Comes c id l a → isCharge id ≡ true → Beside (a .controller) c
 unfolding sessionMoved
-charge-leaves c id l a (Left u e n) h = rw (n h .answer) (record { settings = refl; beat = refl; queries = refl })
-charge-leaves c id l a (Took m says may e) h = rw e (record { settings = refl; beat = refl; queries = refl })
+charge-leaves c id l a (Left u e n) h = rw (n h .answer)
+charge-leaves c id l a (Took m says may e) h = rw e
 
 -- ---- any other frame does the same whatever the session is
 record BesideAfter (a b : Answer) : Type 0 where
@@ -31,12 +34,16 @@ record BesideAfter (a b : Answer) : Type 0 where
 
 -- ---- two controllers that agree beside their sessions go on so, and say the same
 module _ (c d : Controller) (a : Beside c d) where
+  same-own : d .settings .own ≡ c .settings .own
+  same-own = sym (ap (λ (z : Controller). z .settings .own) a)
+
   by-case : (id : ℕ) (l : List ℕ) → View (c .settings .own) id l → isCharge id ≡ false → BesideAfter (frameTo c id l) (frameTo d id l)
   unfolding queriesMoved
-  by-case id l (Refused n h each) f = rw (each c refl, each d (rw (a .settings))) (record { beside = a; number = refl })
+  by-case id l (Refused n h each) f = rw (each c refl, each d same-own) (record { beside = a; number = refl })
   by-case id l (Asks q h each) f =
-      rw (each c refl, each d (rw (a .settings)))
-      (record { beside = record { settings = a .settings; beat = a .beat; queries = rw (a .queries) }; number = rw (a .queries) })
+      let asked : Controller → Answer = λ z. queriesMoved z (askedOf (z .queries) (partsOf id .source) (kindOf q)) in
+      rw (each c refl, each d same-own)
+      (record { beside = ap (λ (z : Controller). asked z .controller) a; number = ap (λ (z : Controller). asked z .number) a })
   by-case id l (Charges k h p each) f = absurd (false≢true (sym f ∙ h))
 
   same-frame : (id : ℕ) (l : List ℕ) → isCharge id ≡ false → BesideAfter (frameTo c id l) (frameTo d id l)
@@ -48,11 +55,11 @@ module _ (c d : Controller) (a : Beside c d) where
 
   beside-next : (r : Readings) (v : List ℕ) (t : List ℤ) → Beside (paperNext c r v t) (paperNext d r v t)
   unfolding paperNext
-  beside-next r v t = record { settings = a .settings; beat = rw (a .beat); queries = rw (a .queries) }
+  beside-next r v t = ap (λ (z : Controller). withSession (paperNext z r v t) (paperNext d r v t .session)) a
 
   beside-read : (s : SettingsRead) → Beside (readInto s c) (readInto s d)
   unfolding readInto
-  beside-read (read.Read x) = record { settings = refl; beat = refl; queries = refl }
+  beside-read (read.Read x) = refl
   beside-read (read.Refused n) = a
 
   beside-event : (e : Event) → isChargeMessage e ≡ false → Beside (after c e) (after d e)
@@ -64,11 +71,11 @@ module _ (c d : Controller) (a : Beside c d) where
 
   same-broadcasts : (r : Readings) (v : List ℕ) (t : List ℤ) → broadcastFrames c r v t ≡ broadcastFrames d r v t
   unfolding broadcastFrames
-  same-broadcasts r v t = rw (a .settings, a .beat)
+  same-broadcasts r v t = ap (λ (z : Controller). broadcastFrames z r v t) a
 
   same-cells : (r : Readings) (v : List ℕ) (t : List ℤ) → cellFrames c r v t ≡ cellFrames d r v t
   unfolding cellFrames
-  same-cells r v t = rw (a .settings, a .queries)
+  same-cells r v t = ap (λ (z : Controller). cellFrames z r v t) a
 
   same-said : (e : Event) → isChargeMessage e ≡ false → outputAt c e ≡ outputAt d e
   unfolding outputAt broadcastsAt cellsAt isChargeMessage
@@ -93,8 +100,7 @@ unmoved-by c (RecordWritten old) h = absurd (false≢true h)
 unmoved-by c (RecordRead s) h = absurd (false≢true h)
 
 then : (c d e : Controller) → Beside c d → Beside d e → Beside c e
-then c d e a b =
-    record { settings = a .settings ∙ b .settings; beat = a .beat ∙ b .beat; queries = a .queries ∙ b .queries }
+then c d e a b = ap (λ (z : Controller). withSession z (e .session)) a ∙ b
 
 abbrev Deaf : List Event → Type 0
 Deaf es = (c d : Controller) → Beside c d → outputs c es ≡ outputs d (others es)
@@ -116,4 +122,4 @@ deaf (e ∷ es) c d a = one-more e es (deaf es) c d a (isChargeMessage e) refl
 -- two controllers that agree beside their sessions, and two lists of events that differ only in charge messages: the same broadcasts, the
 -- same cell answers and the same numbers to queries
 pub unmoved : (c d : Controller) (ks ls : List Event) → Beside c d → others ks ≡ others ls → outputs c ks ≡ outputs d ls
-unmoved c d ks ls a h = deaf ks c d a ∙ (ap (outputs d) h ∙ sym (deaf ls d d (record { settings = refl; beat = refl; queries = refl })))
+unmoved c d ks ls a h = deaf ks c d a ∙ (ap (outputs d) h ∙ sym (deaf ls d d refl))

@@ -10,6 +10,7 @@ use Rattle.readings.specs.declared.Readings.{Readings}
 use Rattle.controller.specs.declared.Controller.{Controller}
 use Rattle.controller.specs.Frame.{frameTo}
 use Rattle.controller.specs.Tick.{broadcastFrames, cellFrames}
+use Rattle.demands.specs.With.{withSession}
 use Rattle.demands.specs.Apart.{Event, FrameReceived, TickMade, RecordWritten, RecordRead, accepts, after, isCharge}
 
 -- a frame that by its PF is a charge message, well formed or not, from any address
@@ -46,8 +47,7 @@ unfoldable pub outputs : Controller → List Event → List Output
 outputs c [] = []
 outputs c (e ∷ es) = outputAt c e ++ outputs (after c e) es
 
--- the same settings, the same place in the broadcasts and the same waiting queries, whatever the sessions are
-pub record Beside (c d : Controller) : Type 0 where
-  pub settings : c .settings ≡ d .settings
-  pub beat : c .beat ≡ d .beat
-  pub queries : c .queries ≡ d .queries
+-- the same settings, the same place in the broadcasts and the same waiting queries, whatever the sessions are: the one with the other's session is
+-- the other
+abbrev pub Beside : Controller → Controller → Type 0
+Beside c d = withSession c (d .session) ≡ d
