@@ -15,6 +15,7 @@ use Rattle.outcomes.specs.Message.{outcomeOf, inIdle, inOffered, inUnverified, 
 use Rattle.session.specs.declared.Session.{Session}
 use Rattle.session.specs.Message.{sessionAfter}
 use Rattle.refusals.specs.Frame.{isIdle}
+use Rattle.demands.specs.Limits.{firstEcp}
 use Rattle.demands.specs.Kinds.{isCharging, isStopping}
 use Rattle.demands.specs.Ends.{messageEnds, messageLeaves}
 use Rattle.demands.proofs.Tests.{same}
@@ -55,7 +56,7 @@ module _ (x : Settings) (source a b n : ℕ) where
   ends-message Unverified Cem h = refl
   ends-message Parameters Cim h = refl
   ends-message Parameters (Cvm v) h = same (idleAfter Parameters) v refl refl
-  ends-message Parameters (Cmp o) h = same (idleAfter Parameters) (ltb 5 n) refl refl
+  ends-message Parameters (Cmp o) h = same (idleAfter Parameters) (ltb firstEcp n) refl refl
   ends-message Parameters (Crm v) h = refl
   ends-message Parameters (Ccs v) h = refl
   ends-message Parameters (Cst v) h = and-false v
@@ -144,7 +145,7 @@ module _ (x : Settings) (source a b n : ℕ) where
   enters-anew Unverified Cem h = refl
   enters-anew Parameters Cim h = refl
   enters-anew Parameters (Cvm v) h = same (agedAfter Parameters) v refl refl
-  enters-anew Parameters (Cmp o) h = same (agedAfter Parameters) (ltb 5 n) refl refl
+  enters-anew Parameters (Cmp o) h = same (agedAfter Parameters) (ltb firstEcp n) refl refl
   enters-anew Parameters (Crm v) h = refl
   enters-anew Parameters (Ccs v) h = refl
   enters-anew Parameters (Cst v) h = refl

@@ -29,6 +29,7 @@ use Rattle.literal.specs.Literal.{literalTick}
 use Rattle.controller.specs.declared.Controller.{Controller}
 use Rattle.refusals.specs.Frame.{isIdle, listed}
 use Rattle.controller.specs.Frame.{frameTo}
+use Rattle.demands.specs.Limits.{silenceLimit}
 use Rattle.demands.specs.Machine.{paperNext}
 use Rattle.demands.specs.Apart.{Event, FrameReceived, TickMade, RecordWritten, RecordRead, accepts, readInto, isRead, after, afterAll, noSession, reaching}
 use Rattle.demands.specs.Silent.{endsWithin}
@@ -80,7 +81,7 @@ module _ (x : Settings) (a : ℕ) (o : Offer) where
     now-open : noSession c ≡ false
     now-open = open-in c (mk a (w .silence) (w .count) (w .state)) (w .session) (at-open o k n (w .count) (w .state) (w .place))
 
-    now-tick : (r : Readings) (v : List ℕ) (t : List ℤ) (old : List ℕ) → accepts r v t old ≡ true → wantedOf r ≡ true → b < 200
+    now-tick : (r : Readings) (v : List ℕ) (t : List ℤ) (old : List ℕ) → accepts r v t old ≡ true → wantedOf r ≡ true → b < silenceLimit
         → Now k (n + 1) (b + 1) (after c (TickMade r v t old))
     unfolding after paperNext
     now-tick r v t old f wants l =
@@ -91,7 +92,7 @@ module _ (x : Settings) (a : ℕ) (o : Offer) where
           settings = rw f (w .settings);
           session = rw f
               (ap (literalTick (c .settings) r (cellsOf v t)) (w .session)
-              ∙ at-tick o k n (w .count) (w .state) (w .place) (c .settings) r (cellsOf v t) a (w .silence) (lt-leb 200 (w .silence) (omega (arith, w .quiet))) wants);
+              ∙ at-tick o k n (w .count) (w .state) (w .place) (c .settings) r (cellsOf v t) a (w .silence) (lt-leb silenceLimit (w .silence) (omega (arith, w .quiet))) wants);
           quiet = omega (arith, w .quiet);
           place = at-next o k n (w .count) (w .state) (w .place);
         }

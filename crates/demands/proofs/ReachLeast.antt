@@ -45,6 +45,7 @@ use Rattle.literal.specs.Literal.{grown, counted, literalIn, literalAdvance, li
 use Rattle.controller.specs.declared.Controller.{Controller}
 use Rattle.controller.specs.declared.Answer.{Answer}
 use Rattle.controller.specs.Frame.{frameTo}
+use Rattle.demands.specs.Limits.{silenceLimit, closingLimit, firstEcp}
 use Rattle.demands.specs.Machine.{paperNext}
 use Rattle.demands.specs.Apart.{Event, FrameReceived, TickMade, RecordWritten, RecordRead, accepts, readInto, after, afterAll}
 use Rattle.demands.specs.Kinds.{isCharging}
@@ -145,7 +146,7 @@ module _ (x : Settings) (source a b n : ℕ) where
   parameters-needs Cim = refuses Parameters
   parameters-needs (Cvm v) = pick Parameters v _ _ (λ e. is-heard Parameters) (out-of-step Parameters)
   parameters-needs (Cmp o) =
-      pick Parameters (ltb 5 n) _ _ (λ e. enters Parameters _ (omega (arith, ltb-true 5 n e))) (out-of-step Parameters)
+      pick Parameters (ltb firstEcp n) _ _ (λ e. enters Parameters _ (omega (arith, ltb-true firstEcp n e))) (out-of-step Parameters)
   parameters-needs (Crm v) = out-of-step Parameters
   parameters-needs (Ccs v) = out-of-step Parameters
   parameters-needs (Cst v) = enters Parameters _ (omega arith)
@@ -287,14 +288,14 @@ module _ (x : Settings) (r : Readings) (c : Cells) (s : Session) where
   turn-needs : (st : State) → next s (turnOf x r c st (s .count) (s .silence)) ≤ needs st (s .count) + 1
   unfolding turnOf waitingOf chargingOf stopsOf phaseTurn stoppingOf errorOf needs
   turn-needs Idle = next-on s Idle
-  turn-needs Offered = waiting-needs s Offered (leb 200 (s .silence)) (wantedOf r)
-  turn-needs Unverified = waiting-needs s Unverified (leb 200 (s .silence)) (wantedOf r)
-  turn-needs Parameters = waiting-needs s Parameters (leb 200 (s .silence)) (wantedOf r)
-  turn-needs (Ready y most) = waiting-needs s (Ready y most) (leb 200 (s .silence)) (wantedOf r)
+  turn-needs Offered = waiting-needs s Offered (leb silenceLimit (s .silence)) (wantedOf r)
+  turn-needs Unverified = waiting-needs s Unverified (leb silenceLimit (s .silence)) (wantedOf r)
+  turn-needs Parameters = waiting-needs s Parameters (leb silenceLimit (s .silence)) (wantedOf r)
+  turn-needs (Ready y most) = waiting-needs s (Ready y most) (leb silenceLimit (s .silence)) (wantedOf r)
   turn-needs (Charging p) =
-      charging-turn (turnedOf p (cellFull x c)) (leb 200 (s .silence)) (wantedOf r) (aboveOf (r .current) (x .current)) (packFull x r)
-  turn-needs (Stopping k e) = closing-needs s (Stopping k (estThen x r c e)) (leb 600 (s .count))
-  turn-needs Error = closing-needs s Error (leb 600 (s .count))
+      charging-turn (turnedOf p (cellFull x c)) (leb silenceLimit (s .silence)) (wantedOf r) (aboveOf (r .current) (x .current)) (packFull x r)
+  turn-needs (Stopping k e) = closing-needs s (Stopping k (estThen x r c e)) (leb closingLimit (s .count))
+  turn-needs Error = closing-needs s Error (leb closingLimit (s .count))
 
   -- a tick raises what is needed by one at the most
   tick-needs : needed (literalTick x r c s) ≤ needed s + 1

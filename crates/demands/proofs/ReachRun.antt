@@ -16,6 +16,7 @@ use Rattle.charge_messages.specs.Content.{contentOf}
 use Rattle.outcomes.specs.Offer.{acceptedOf}
 use Rattle.controller.specs.Start.{freshOf}
 use Rattle.refusals.specs.Frame.{notCan, flagsSet, notForUs, badSource, listed}
+use Rattle.demands.specs.Limits.{silenceLimit}
 use Rattle.demands.specs.Apart.{chargeIn, Event, FrameReceived, TickMade, afterAll, isQuery, queryIn, fromStation, reaches, reaching}
 use Rattle.demands.specs.Silent.{isAcceptedTick, ticksIn}
 use Rattle.demands.specs.Checks.{longEnough, messageIn}
@@ -126,7 +127,7 @@ tick = TickMade quietReadings (330 ∷ []) (pos 20 ∷ []) (zeros 117)
 pub eight : List Event
 eight = tick ∷ cvm-aa ∷ tick ∷ tick ∷ tick ∷ tick ∷ tick ∷ tick ∷ cmp ∷ tick ∷ crm-aa ∷ []
 
-on : (k : Stretch) (n b : ℕ) (es : List Event) → b < 200 → Follows ours 0x56 offer k (n + 1) (b + 1) es → Follows ours 0x56 offer k n b (tick ∷ es)
+on : (k : Stretch) (n b : ℕ) (es : List Event) → b < silenceLimit → Follows ours 0x56 offer k (n + 1) (b + 1) es → Follows ours 0x56 offer k n b (tick ∷ es)
 on k n b es l f = Ticks {b = b} (such-a-tick .0) (such-a-tick .1) (omega (arith, l)) f
 
 follows-eight : Follows ours 0x56 offer UntilCvm 0 0 (reaching 0x56 eight)

@@ -26,6 +26,7 @@ use Rattle.session.specs.Message.{sessionAfter}
 use Rattle.session.specs.Tick.{turnedBy, turnIn}
 use Rattle.literal.specs.Literal.{grown, literalIn, literalAdvance, literalTick}
 use Rattle.refusals.specs.Frame.{isIdle}
+use Rattle.demands.specs.Limits.{silenceLimit, firstEcp}
 use Rattle.demands.specs.Reach.{chargingWith, Stretch, UntilCvm, UntilVerified, UntilCmp, UntilCrm, besides}
 
 abbrev pub mk : ℕ → ℕ → ℕ → State → Session
@@ -37,7 +38,7 @@ pub data At (o : Offer) : Stretch → ℕ → State → ℕ → Type 0 where
   AtOffered : {n : ℕ} → At o UntilCvm n Offered n
   AtUnverified : {n : ℕ} → At o UntilVerified n Unverified n
   AtParameters : {n : ℕ} → At o UntilCmp n Parameters n
-  AtReady : {n m most : ℕ} {accepted : Bool} → 6 ≤ n → At o UntilCmp n (Ready accepted most) m
+  AtReady : {n m most : ℕ} {accepted : Bool} → firstEcp + 1 ≤ n → At o UntilCmp n (Ready accepted most) m
   AtLast : {n : ℕ} → At o UntilCrm n (Ready true (stationMost o)) n
 
 pub at-next : (o : Offer) (k : Stretch) (n m : ℕ) (st : State) → At o k n st m → At o k (n + 1) st (m + 1)
@@ -57,7 +58,7 @@ at-open o k n m st AtLast = refl
 
 -- a tick that wants charge
 pub at-tick : (o : Offer) (k : Stretch) (n m : ℕ) (st : State) → At o k n st m → (x : Settings) (r : Readings) (c : Cells) (a b : ℕ)
-    → leb 200 b ≡ false → wantedOf r ≡ true → literalTick x r c (mk a b m st) ≡ mk a (b + 1) (m + 1) st
+    → leb silenceLimit b ≡ false → wantedOf r ≡ true → literalTick x r c (mk a b m st) ≡ mk a (b + 1) (m + 1) st
 unfolding literalTick literalAdvance literalIn grown turnedBy turnIn turnOf waitingOf
 at-tick o k n m st AtOffered x r c a b h w = rw (h, w)
 at-tick o k n m st AtUnverified x r c a b h w = rw (h, w)
@@ -124,16 +125,16 @@ module _ (x : Settings) (a : ℕ) (o : Offer) where
     cvm-parameters n true = stays-heard UntilCmp n n Parameters AtParameters
     cvm-parameters n false = stays-out UntilCmp n n Parameters AtParameters
 
-    cmp-parameters : (n : ℕ) (p : Offer) (g : Bool) → ltb 5 n ≡ g → Word UntilCmp n (comes n Parameters (cond g (readyOf x p) OutOfStep))
+    cmp-parameters : (n : ℕ) (p : Offer) (g : Bool) → ltb firstEcp n ≡ g → Word UntilCmp n (comes n Parameters (cond g (readyOf x p) OutOfStep))
     unfolding readyOf
-    cmp-parameters n p true e = enters UntilCmp n n Parameters (Ready (acceptedOf x p) (stationMost p)) (AtReady (ltb-true 5 n e))
+    cmp-parameters n p true e = enters UntilCmp n n Parameters (Ready (acceptedOf x p) (stationMost p)) (AtReady (ltb-true firstEcp n e))
     cmp-parameters n p false e = stays-out UntilCmp n n Parameters AtParameters
 
     in-parameters : (n : ℕ) (w : ChargeMessage) → besides UntilCmp n w ≡ true → Word UntilCmp n (comes n Parameters (inParameters x n w))
     unfolding besides inParameters
     in-parameters n Cim h = absurd (false≢true h)
     in-parameters n (Cvm v) h = cvm-parameters n v
-    in-parameters n (Cmp p) h = cmp-parameters n p (ltb 5 n) refl
+    in-parameters n (Cmp p) h = cmp-parameters n p (ltb firstEcp n) refl
     in-parameters n (Crm v) h = stays-out UntilCmp n n Parameters AtParameters
     in-parameters n (Ccs v) h = stays-out UntilCmp n n Parameters AtParameters
     in-parameters n (Cst v) h = absurd (false≢true h)
@@ -145,14 +146,14 @@ module _ (x : Settings) (a : ℕ) (o : Offer) where
     crm-stays k n m most accepted true p = stays-heard k n m (Ready accepted most) p
     crm-stays k n m most accepted false p = stays-out k n m (Ready accepted most) p
 
-    in-ready : (n m most : ℕ) (accepted : Bool) (w : ChargeMessage) → 6 ≤ n → besides UntilCmp n w ≡ true
+    in-ready : (n m most : ℕ) (accepted : Bool) (w : ChargeMessage) → firstEcp + 1 ≤ n → besides UntilCmp n w ≡ true
         → Word UntilCmp n (comes m (Ready accepted most) (inReady x accepted most m w))
     unfolding besides inReady readyOf crmOf
     in-ready n m most accepted Cim l h = absurd (false≢true h)
     in-ready n m most accepted (Cvm v) l h = stays-out UntilCmp n m (Ready accepted most) (AtReady l)
     in-ready n m most accepted (Cmp p) l h =
         enters UntilCmp n m (Ready accepted most) (Ready (acceptedOf x p) (stationMost p)) (AtReady l)
-    in-ready n m most accepted (Crm true) l h = absurd (false≢true (not-both (ltb 5 n) (lt-ltb 5 n l) h))
+    in-ready n m most accepted (Crm true) l h = absurd (false≢true (not-both (ltb firstEcp n) (lt-ltb firstEcp n l) h))
     in-ready n m most accepted (Crm false) l h = crm-stays UntilCmp n m most accepted (accepted && ltb 0 m) (AtReady l)
     in-ready n m most accepted (Ccs v) l h = stays-out UntilCmp n m (Ready accepted most) (AtReady l)
     in-ready n m most accepted (Cst v) l h = absurd (false≢true h)
@@ -216,10 +217,10 @@ module _ (x : Settings) (a : ℕ) (o : Offer) where
   unfolding sessionAfter outcomeOf inUnverified
   cvm-later n b m st AtUnverified = refl
 
-  pub cmp-offers : (n b m : ℕ) (st : State) → At o UntilCmp n st m → acceptedOf x o ≡ true → 6 ≤ n
+  pub cmp-offers : (n b m : ℕ) (st : State) → At o UntilCmp n st m → acceptedOf x o ≡ true → firstEcp + 1 ≤ n
       → sessionAfter a (mk a b m st) (outcomeOf x st m (Cmp o)) ≡ mk a 0 0 (Ready true (stationMost o))
   unfolding sessionAfter outcomeOf inParameters inReady readyOf
-  cmp-offers n b m st AtParameters y l = rw (lt-ltb 5 n l, y)
+  cmp-offers n b m st AtParameters y l = rw (lt-ltb firstEcp n l, y)
   cmp-offers n b m st (AtReady h) y l = rw y
 
   pub crm-starts : (n b m : ℕ) (st : State) → At o UntilCrm n st m → 1 ≤ n

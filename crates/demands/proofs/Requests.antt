@@ -40,6 +40,7 @@ use Rattle.controller.specs.declared.Controller.{Controller}
 use Rattle.controller.specs.declared.Answer.{Answer}
 use Rattle.controller.specs.Start.{freshOf}
 use Rattle.controller.specs.Frame.{frameTo}
+use Rattle.demands.specs.Limits.{silenceLimit, closingLimit, firstEcp, driveLimit, restLimit, holdLimit, leastRequest, mostDrives}
 use Rattle.demands.specs.Machine.{paperNext}
 use Rattle.demands.specs.Apart.{Event, FrameReceived, TickMade, RecordWritten, RecordRead, accepts, readInto, after, afterAll}
 use Rattle.demands.specs.Requests.{requestOf, requestIn}
@@ -61,7 +62,7 @@ drive-is request = refl
 
 start-asks : (maximum station : ℕ) → requestOf (startPhase maximum station) ≤ maximum
 unfolding startPhase
-start-asks maximum station = either (ltb (lesserOf maximum station) 60)
+start-asks maximum station = either (ltb (lesserOf maximum station) leastRequest)
   where
     either : (t : Bool) → requestOf (cond t (Hold 0) (Drive (lesserOf maximum station) 1 0)) ≤ maximum
     either true = hold-asks maximum
@@ -108,7 +109,7 @@ module _ (x : Settings) (n : ℕ) where
   outcome-asks Unverified Cem = omega arith
   outcome-asks Parameters Cim = omega arith
   outcome-asks Parameters (Cvm v) = either v _ _ (omega arith) (omega arith)
-  outcome-asks Parameters (Cmp o) = either (ltb 5 n) _ _ (omega arith) (omega arith)
+  outcome-asks Parameters (Cmp o) = either (ltb firstEcp n) _ _ (omega arith) (omega arith)
   outcome-asks Parameters (Crm v) = omega arith
   outcome-asks Parameters (Ccs v) = omega arith
   outcome-asks Parameters (Cst v) = omega arith
@@ -164,11 +165,11 @@ lower m false a b h k = k
 
 drive-asks : (m request cycle time : ℕ) (full : Bool) → request ≤ m → turnedAsks (driveRules request cycle time full) ≤ m
 unfolding turnedAsks driveRules requestOf
-drive-asks m request cycle time full h = lower m (leb 18000 time) _ _ (omega arith) (lower m full _ _ h h)
+drive-asks m request cycle time full h = lower m (leb driveLimit time) _ _ (omega arith) (lower m full _ _ h h)
 
 hold-rules-ask : (m time : ℕ) (full : Bool) → turnedAsks (holdRules time full) ≤ m
 unfolding turnedAsks holdRules requestOf
-hold-rules-ask m time full = lower m (leb 18000 time) _ _ (omega arith) (lower m full _ _ (omega arith) (omega arith))
+hold-rules-ask m time full = lower m (leb holdLimit time) _ _ (omega arith) (lower m full _ _ (omega arith) (omega arith))
 
 rest-asks : (request cycle time : ℕ) → turnedAsks (turned.On (Rest request cycle time)) ≤ request
 unfolding turnedAsks requestOf
@@ -178,9 +179,9 @@ turned-asks : (p : Phase) (full : Bool) → turnedAsks (turnedOf p full) ≤ req
 unfolding turnedOf afterRest requestOf
 turned-asks (Drive request cycle time) full = drive-asks request request cycle time full (omega arith)
 turned-asks (Rest request cycle time) full =
-    lower request (leb 6000 time) _ _
-    (lower request (ltb (request / 2) 60) _ _ (hold-rules-ask request 0 full)
-    (lower request (leb 6 cycle) _ _ (hold-rules-ask request 0 full) (drive-asks request (request / 2) _ 0 full (omega arith))))
+    lower request (leb restLimit time) _ _
+    (lower request (ltb (request / 2) leastRequest) _ _ (hold-rules-ask request 0 full)
+    (lower request (leb mostDrives cycle) _ _ (hold-rules-ask request 0 full) (drive-asks request (request / 2) _ 0 full (omega arith))))
     (rest-asks request cycle time)
 turned-asks (Hold time) full = hold-rules-ask 0 time full
 
@@ -203,7 +204,7 @@ module _ (x : Settings) (r : Readings) (c : Cells) where
 
   wait-asks : (m silence : ℕ) (st : State) → requestIn st ≤ m → turnAsks (waitingOf r silence st) ≤ m
   unfolding turnAsks waitingOf requestIn
-  wait-asks m silence st h = fewer m (leb 200 silence) _ _ (omega arith) (fewer m (wantedOf r) _ _ h (omega arith))
+  wait-asks m silence st h = fewer m (leb silenceLimit silence) _ _ (omega arith) (fewer m (wantedOf r) _ _ h (omega arith))
 
   turn-asks : (n silence : ℕ) (st : State) → turnAsks (turnOf x r c st n silence) ≤ requestIn st
   unfolding turnAsks turnOf chargingOf stopsOf phaseTurn stopOf stoppingOf errorOf requestIn
@@ -214,13 +215,13 @@ module _ (x : Settings) (r : Readings) (c : Cells) where
   turn-asks n silence (Ready y most) = wait-asks 0 silence (Ready y most) (omega arith)
   turn-asks n silence (Charging p) =
       let m = requestOf p in
-      fewer m (leb 200 silence) _ _ (omega arith)
+      fewer m (leb silenceLimit silence) _ _ (omega arith)
       (fewer m (wantedOf r) _ _
       (fewer m (aboveOf (r .current) (x .current)) _ _ (omega arith)
       (fewer m (packFull x r) _ _ (omega arith) (phase-asks m (turnedOf p (cellFull x c)) (turned-asks p (cellFull x c)))))
       (omega arith))
-  turn-asks n silence (Stopping k e) = fewer 0 (leb 600 n) _ _ (omega arith) (omega arith)
-  turn-asks n silence Error = fewer 0 (leb 600 n) _ _ (omega arith) (omega arith)
+  turn-asks n silence (Stopping k e) = fewer 0 (leb closingLimit n) _ _ (omega arith) (omega arith)
+  turn-asks n silence Error = fewer 0 (leb closingLimit n) _ _ (omega arith) (omega arith)
 
   turned-is : (s : Session) (t : Turn) → requestIn (turnedBy s t .state) ≡ turnAsks t
   unfolding turnedBy turnAsks requestIn

@@ -38,6 +38,7 @@ use Rattle.controller.specs.declared.Controller.{Controller}
 use Rattle.refusals.specs.Frame.{isIdle}
 use Rattle.controller.specs.Frame.{frameTo}
 use Rattle.refusals.specs.Tick.{tickNumber}
+use Rattle.demands.specs.Limits.{silenceLimit, closingLimit}
 use Rattle.demands.specs.Machine.{paperNext}
 use Rattle.demands.specs.Apart.{Event, FrameReceived, TickMade, RecordWritten, RecordRead, accepts, readInto, after, noSession, fromStation}
 use Rattle.demands.specs.Silent.{Unheeded, Silence, quietAt, sendsNothing, isAcceptedTick, ticksIn, endsWithin, repeated, EndsBy, longest}
@@ -49,18 +50,18 @@ use Rattle.demands.proofs.SilentFrames.{unheeded-kept, still-unheeded}
 -- the ticks that a silent session has left, at most
 leftIn : State → ℕ → ℕ → ℕ
 leftIn Idle b n = 0
-leftIn Offered b n = 601 + (200 - b)
-leftIn Unverified b n = 601 + (200 - b)
-leftIn Parameters b n = 601 + (200 - b)
-leftIn (Ready y k) b n = 601 + (200 - b)
-leftIn (Charging p) b n = 601 + (200 - b)
-leftIn (Stopping a e) b n = 1 + (600 - n)
-leftIn Error b n = 1 + (600 - n)
+leftIn Offered b n = closingLimit + 1 + (silenceLimit - b)
+leftIn Unverified b n = closingLimit + 1 + (silenceLimit - b)
+leftIn Parameters b n = closingLimit + 1 + (silenceLimit - b)
+leftIn (Ready y k) b n = closingLimit + 1 + (silenceLimit - b)
+leftIn (Charging p) b n = closingLimit + 1 + (silenceLimit - b)
+leftIn (Stopping a e) b n = 1 + (closingLimit - n)
+leftIn Error b n = 1 + (closingLimit - n)
 
 left : Session → ℕ
 left s = leftIn (s .state) (s .silence) (s .count)
 
-most : (st : State) (b n : ℕ) → leftIn st b n ≤ 801
+most : (st : State) (b n : ℕ) → leftIn st b n ≤ longest
 unfolding leftIn
 most Idle b n = omega arith
 most Offered b n = omega arith
@@ -97,7 +98,7 @@ early (Charging p) = true
 early (Stopping a e) = false
 early Error = false
 
-next-on : (s : Session) (st : State) → early st ≡ true → next s (turn.On st) ≡ 601 + (200 - (s .silence + 1))
+next-on : (s : Session) (st : State) → early st ≡ true → next s (turn.On st) ≡ closingLimit + 1 + (silenceLimit - (s .silence + 1))
 unfolding next left leftIn early literalAdvance literalIn grown turnedBy
 next-on s Idle e = absurd (false≢true e)
 next-on s Offered e = refl
@@ -108,11 +109,11 @@ next-on s (Charging p) e = refl
 next-on s (Stopping a f) e = absurd (false≢true e)
 next-on s Error e = absurd (false≢true e)
 
-next-error : (s : Session) → next s (turn.Enter Error) ≡ 600
+next-error : (s : Session) → next s (turn.Enter Error) ≡ closingLimit
 unfolding next left leftIn literalAdvance literalIn counted turnedBy
 next-error s = refl
 
-next-stop : (x : Settings) (r : Readings) (c : Cells) (s : Session) (k : Cause) → next s (stopOf x r c k) ≡ 600
+next-stop : (x : Settings) (r : Readings) (c : Cells) (s : Session) (k : Cause) → next s (stopOf x r c k) ≡ closingLimit
 unfolding next left leftIn literalAdvance literalIn counted turnedBy stopOf
 next-stop x r c s k = refl
 
@@ -124,56 +125,56 @@ next-end : (s : Session) → next s turn.End ≡ 0
 unfolding next left leftIn literalAdvance literalIn turnedBy
 next-end s = refl
 
-next-stopping : (s : Session) (a : Bool) (e : Est) → next s (turn.On (Stopping a e)) ≡ 1 + (600 - (s .count + 1))
+next-stopping : (s : Session) (a : Bool) (e : Est) → next s (turn.On (Stopping a e)) ≡ 1 + (closingLimit - (s .count + 1))
 unfolding next left leftIn literalAdvance literalIn counted turnedBy
 next-stopping s a e = refl
 
-next-in-error : (s : Session) → next s (turn.On Error) ≡ 1 + (600 - (s .count + 1))
+next-in-error : (s : Session) → next s (turn.On Error) ≡ 1 + (closingLimit - (s .count + 1))
 unfolding next left leftIn literalAdvance literalIn counted turnedBy
 next-in-error s = refl
 
-falls-waiting : (r : Readings) (s : Session) (st : State) → early st ≡ true → next s (waitingOf r (s .silence) st) < 601 + (200 - s .silence)
+falls-waiting : (r : Readings) (s : Session) (st : State) → early st ≡ true → next s (waitingOf r (s .silence) st) < closingLimit + 1 + (silenceLimit - s .silence)
 unfolding waitingOf
-falls-waiting r s st e = go (leb 200 (s .silence)) refl (wantedOf r)
+falls-waiting r s st e = go (leb silenceLimit (s .silence)) refl (wantedOf r)
   where
-    go : (t : Bool) → leb 200 (s .silence) ≡ t → (w : Bool) → next s (cond t (turn.Enter Error) (cond w (turn.On st) turn.Farewell)) < 601 + (200 - s .silence)
+    go : (t : Bool) → leb silenceLimit (s .silence) ≡ t → (w : Bool) → next s (cond t (turn.Enter Error) (cond w (turn.On st) turn.Farewell)) < closingLimit + 1 + (silenceLimit - s .silence)
     go true h w = omega (arith, next-error s)
-    go false h true = omega (arith, next-on s st e, leb-false 200 (s .silence) h)
+    go false h true = omega (arith, next-on s st e, leb-false silenceLimit (s .silence) h)
     go false h false = omega (arith, next-farewell s)
 
 module _ (x : Settings) (r : Readings) (c : Cells) (s : Session) where
-  falls-phase : (q : Turned) → leb 200 (s .silence) ≡ false → next s (phaseOn x r c q) < 601 + (200 - s .silence)
+  falls-phase : (q : Turned) → leb silenceLimit (s .silence) ≡ false → next s (phaseOn x r c q) < closingLimit + 1 + (silenceLimit - s .silence)
   unfolding phaseOn early
-  falls-phase (turned.On p) h = omega (arith, next-on s (Charging p) refl, leb-false 200 (s .silence) h)
+  falls-phase (turned.On p) h = omega (arith, next-on s (Charging p) refl, leb-false silenceLimit (s .silence) h)
   falls-phase (turned.Stop k) h = omega (arith, next-stop x r c s k)
 
-  falls-charging : (p : Phase) → next s (chargingOf x r c (s .silence) p) < 601 + (200 - s .silence)
+  falls-charging : (p : Phase) → next s (chargingOf x r c (s .silence) p) < closingLimit + 1 + (silenceLimit - s .silence)
   unfolding chargingOf stopsOf phaseTurn
-  falls-charging p = go (leb 200 (s .silence)) refl (wantedOf r) (aboveOf (r .current) (x .current)) (packFull x r)
+  falls-charging p = go (leb silenceLimit (s .silence)) refl (wantedOf r) (aboveOf (r .current) (x .current)) (packFull x r)
     where
-      go : (t : Bool) → leb 200 (s .silence) ≡ t → (w u y : Bool) →
-          next s (cond t (turn.Enter Error) (cond w (cond u (stopOf x r c Other) (cond y (stopOf x r c PackVoltage) (phaseOn x r c (turnedOf p (cellFull x c))))) (stopOf x r c Other))) < 601 + (200 - s .silence)
+      go : (t : Bool) → leb silenceLimit (s .silence) ≡ t → (w u y : Bool) →
+          next s (cond t (turn.Enter Error) (cond w (cond u (stopOf x r c Other) (cond y (stopOf x r c PackVoltage) (phaseOn x r c (turnedOf p (cellFull x c))))) (stopOf x r c Other))) < closingLimit + 1 + (silenceLimit - s .silence)
       go true h w u y = omega (arith, next-error s)
       go false h false u y = omega (arith, next-stop x r c s Other)
       go false h true true y = omega (arith, next-stop x r c s Other)
       go false h true false true = omega (arith, next-stop x r c s PackVoltage)
       go false h true false false = falls-phase (turnedOf p (cellFull x c)) h
 
-  falls-stopping : (a : Bool) (e : Est) → next s (stoppingOf x r c (s .count) a e) < 1 + (600 - s .count)
+  falls-stopping : (a : Bool) (e : Est) → next s (stoppingOf x r c (s .count) a e) < 1 + (closingLimit - s .count)
   unfolding stoppingOf
-  falls-stopping a e = go (leb 600 (s .count)) refl
+  falls-stopping a e = go (leb closingLimit (s .count)) refl
     where
-      go : (t : Bool) → leb 600 (s .count) ≡ t → next s (cond t turn.End (turn.On (Stopping a (estThen x r c e)))) < 1 + (600 - s .count)
+      go : (t : Bool) → leb closingLimit (s .count) ≡ t → next s (cond t turn.End (turn.On (Stopping a (estThen x r c e)))) < 1 + (closingLimit - s .count)
       go true h = omega (arith, next-end s)
-      go false h = omega (arith, next-stopping s a (estThen x r c e), leb-false 600 (s .count) h)
+      go false h = omega (arith, next-stopping s a (estThen x r c e), leb-false closingLimit (s .count) h)
 
-  falls-error : next s (errorOf (s .count)) < 1 + (600 - s .count)
+  falls-error : next s (errorOf (s .count)) < 1 + (closingLimit - s .count)
   unfolding errorOf
-  falls-error = go (leb 600 (s .count)) refl
+  falls-error = go (leb closingLimit (s .count)) refl
     where
-      go : (t : Bool) → leb 600 (s .count) ≡ t → next s (cond t turn.End (turn.On Error)) < 1 + (600 - s .count)
+      go : (t : Bool) → leb closingLimit (s .count) ≡ t → next s (cond t turn.End (turn.On Error)) < 1 + (closingLimit - s .count)
       go true h = omega (arith, next-end s)
-      go false h = omega (arith, next-in-error s, leb-false 600 (s .count) h)
+      go false h = omega (arith, next-in-error s, leb-false closingLimit (s .count) h)
 
   falls-in : (st : State) → isIdle st ≡ false → next s (turnOf x r c st (s .count) (s .silence)) < leftIn st (s .silence) (s .count)
   unfolding turnOf leftIn isIdle early
@@ -264,15 +265,15 @@ silent-station c es q = still (c .session .station) es c (λ o. refl) q
 
 -- ---- and 800 are not enough
 module _ (x : Settings) (r : Readings) (c : Cells) (a b n : ℕ) where
-  error-tick : leb 600 n ≡ false → literalTick x r c (mk a b n Error) ≡ mk a b (n + 1) Error
+  error-tick : leb closingLimit n ≡ false → literalTick x r c (mk a b n Error) ≡ mk a b (n + 1) Error
   unfolding literalTick literalAdvance literalIn counted turnedBy turnIn turnOf errorOf
   error-tick h = rw h
 
-  late-tick : leb 200 b ≡ true → literalTick x r c (mk a b n Offered) ≡ mk a 0 1 Error
+  late-tick : leb silenceLimit b ≡ true → literalTick x r c (mk a b n Offered) ≡ mk a 0 1 Error
   unfolding literalTick literalAdvance literalIn counted turnedBy turnIn turnOf waitingOf
   late-tick h = rw h
 
-  offered-tick : leb 200 b ≡ false → wantedOf r ≡ true → literalTick x r c (mk a b n Offered) ≡ mk a (b + 1) (n + 1) Offered
+  offered-tick : leb silenceLimit b ≡ false → wantedOf r ≡ true → literalTick x r c (mk a b n Offered) ≡ mk a (b + 1) (n + 1) Offered
   unfolding literalTick literalAdvance literalIn grown turnedBy turnIn turnOf waitingOf
   offered-tick h w = rw (h, w)
 
@@ -292,29 +293,29 @@ module _ (r : Readings) (v : List ℕ) (t : List ℤ) (old : List ℕ) (taken : 
   unfolding noSession isIdle
   open-offered c a b n h = rw h
 
-  lives-error : (k : ℕ) (c : Controller) (a b n : ℕ) → c .session ≡ mk a b n Error → n + k ≤ 600 → endsWithin c (repeated k beat) ≡ false
+  lives-error : (k : ℕ) (c : Controller) (a b n : ℕ) → c .session ≡ mk a b n Error → n + k ≤ closingLimit → endsWithin c (repeated k beat) ≡ false
   unfolding endsWithin repeated
   lives-error zero c a b n h l = open-error c a b n h
   lives-error (suc k) c a b n h l =
       or-false (noSession c) _ (open-error c a b n h)
       (lives-error k (after c beat) a b (n + 1)
-      (ticks c (mk a b n Error) h ∙ error-tick (c .settings) r (cellsOf v t) a b n (lt-leb 600 n (omega arith))) (omega arith))
+      (ticks c (mk a b n Error) h ∙ error-tick (c .settings) r (cellsOf v t) a b n (lt-leb closingLimit n (omega arith))) (omega arith))
 
-  lives-offered : (k : ℕ) (c : Controller) (a b n : ℕ) → c .session ≡ mk a b n Offered → b ≤ 200 → b + k ≤ 800 → endsWithin c (repeated k beat) ≡ false
+  lives-offered : (k : ℕ) (c : Controller) (a b n : ℕ) → c .session ≡ mk a b n Offered → b ≤ silenceLimit → b + k ≤ silenceLimit + closingLimit → endsWithin c (repeated k beat) ≡ false
   unfolding endsWithin repeated
   lives-offered zero c a b n h l g = open-offered c a b n h
   lives-offered (suc k) c a b n h l g =
       or-false (noSession c) _ (open-offered c a b n h)
-      (go (leb 200 b) refl (λ p m q. lives-offered k (after c beat) a (b + 1) (n + 1) p m q))
+      (go (leb silenceLimit b) refl (λ p m q. lives-offered k (after c beat) a (b + 1) (n + 1) p m q))
     where
-      go : (f : Bool) → leb 200 b ≡ f
-          → (after c beat .session ≡ mk a (b + 1) (n + 1) Offered → b + 1 ≤ 200 → b + 1 + k ≤ 800 → endsWithin (after c beat) (repeated k beat) ≡ false)
+      go : (f : Bool) → leb silenceLimit b ≡ f
+          → (after c beat .session ≡ mk a (b + 1) (n + 1) Offered → b + 1 ≤ silenceLimit → b + 1 + k ≤ silenceLimit + closingLimit → endsWithin (after c beat) (repeated k beat) ≡ false)
           → endsWithin (after c beat) (repeated k beat) ≡ false
       go true e ih =
           lives-error k (after c beat) a 0 1 (ticks c (mk a b n Offered) h ∙ late-tick (c .settings) r (cellsOf v t) a b n e)
-          (omega (arith, leb-true 200 b e))
+          (omega (arith, leb-true silenceLimit b e))
       go false e ih =
-          ih (ticks c (mk a b n Offered) h ∙ offered-tick (c .settings) r (cellsOf v t) a b n e wants) (omega (arith, leb-false 200 b e)) (omega arith)
+          ih (ticks c (mk a b n Offered) h ∙ offered-tick (c .settings) r (cellsOf v t) a b n e wants) (omega (arith, leb-false silenceLimit b e)) (omega arith)
 
   -- an Offered session that has just heeded its station lives through 800 accepted ticks that want charge
   pub not-within-800 : (c : Controller) (a n : ℕ) → c .session ≡ mk a 0 n Offered → endsWithin c (repeated 800 beat) ≡ false

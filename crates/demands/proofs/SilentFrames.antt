@@ -20,6 +20,7 @@ use Rattle.session.specs.Message.{sessionAfter, appliedOf, messageOf}
 use Rattle.controller.specs.declared.Controller.{Controller}
 use Rattle.refusals.specs.Frame.{isIdle}
 use Rattle.controller.specs.Frame.{frameTo}
+use Rattle.demands.specs.Limits.{firstEcp}
 use Rattle.demands.specs.Apart.{FrameReceived, noSession, fromStation}
 use Rattle.demands.specs.Says.{Says}
 use Rattle.demands.specs.Kinds.{isStopping}
@@ -62,7 +63,7 @@ module _ (x : Settings) (source : ℕ) (s : Session) (n : ℕ) where
   unfolding Fits silenceAfter sessionAfter inParameters readyOf feeds
   fits-parameters Cim = refl
   fits-parameters (Cvm b) = same silenceAfter b refl refl
-  fits-parameters (Cmp o) = same silenceAfter (ltb 5 n) refl refl
+  fits-parameters (Cmp o) = same silenceAfter (ltb firstEcp n) refl refl
   fits-parameters (Crm b) = refl
   fits-parameters (Ccs b) = refl
   fits-parameters (Cst b) = refl

@@ -31,6 +31,7 @@ use Rattle.session.specs.declared.Session.{Session}
 use Rattle.session.specs.Tick.{turnedBy, turnIn}
 use Rattle.literal.specs.Literal.{older, grown, counted, literalIn, literalAdvance, literalTick}
 use Rattle.controller.specs.declared.Controller.{Controller}
+use Rattle.demands.specs.Limits.{silenceLimit, closingLimit}
 use Rattle.demands.specs.Machine.{paperNext}
 use Rattle.refusals.specs.Frame.{isIdle}
 use Rattle.demands.specs.Apart.{Event, FrameReceived, TickMade, RecordWritten, RecordRead, accepts, readInto, after, noSession}
@@ -78,7 +79,7 @@ module _ (among : State → Bool) (these : ChargeMessage → Bool)
   module _ (x : Settings) (r : Readings) (c : Cells) where
     stays-waiting : (b : ℕ) (st : State) → among st ≡ true → Stays (waitingOf r b st)
     unfolding Stays waitingOf
-    stays-waiting b st h = either Stays (leb 200 b) error (either Stays (wantedOf r) h tt)
+    stays-waiting b st h = either Stays (leb silenceLimit b) error (either Stays (wantedOf r) h tt)
 
     stays-phase : (q : Turned) → ((p : Phase) → among (Charging p) ≡ true) → Stays (phaseOn x r c q)
     unfolding Stays phaseOn stopOf
@@ -88,7 +89,7 @@ module _ (among : State → Bool) (these : ChargeMessage → Bool)
     stays-charging : (b : ℕ) (p : Phase) → among (Charging p) ≡ true → Stays (chargingOf x r c b p)
     unfolding Stays chargingOf stopsOf phaseTurn stopOf
     stays-charging b p h =
-        either Stays (leb 200 b) error
+        either Stays (leb silenceLimit b) error
         (either Stays (wantedOf r)
         (either Stays (aboveOf (r .current) (x .current)) (stopping _ _)
         (either Stays (packFull x r) (stopping _ _) (stays-phase (turnedOf p (cellFull x c)) (λ q. charging p q h))))
@@ -102,8 +103,8 @@ module _ (among : State → Bool) (these : ChargeMessage → Bool)
     stays-turn n b Parameters h = stays-waiting b Parameters h
     stays-turn n b (Ready y k) h = stays-waiting b (Ready y k) h
     stays-turn n b (Charging p) h = stays-charging b p h
-    stays-turn n b (Stopping a e) h = either Stays (leb 600 n) tt (stopping a (estThen x r c e))
-    stays-turn n b Error h = either Stays (leb 600 n) tt h
+    stays-turn n b (Stopping a e) h = either Stays (leb closingLimit n) tt (stopping a (estThen x r c e))
+    stays-turn n b Error h = either Stays (leb closingLimit n) tt h
 
     stays-tick : (s : Session) → among (s .state) ≡ true → among (literalTick x r c s .state) ≡ true
     unfolding literalTick literalAdvance turnIn

@@ -22,7 +22,7 @@ use Rattle.refusals.specs.Frame.{isIdle}
 use Rattle.demands.specs.Machine.{paperNext}
 use Rattle.demands.specs.Apart.{TickMade, accepts, after, noSession}
 use Rattle.demands.specs.Kinds.{isCharging}
-use Rattle.demands.specs.Stops.{Why, GoesOn, Silence200, NotWantedBefore, NotWantedCharging, CurrentAbove, PackFull, TimeUp, CellFull, Count600}
+use Rattle.demands.specs.Stops.{Why, GoesOn, AtSilenceLimit, NotWantedBefore, NotWantedCharging, CurrentAbove, PackFull, TimeUp, CellFull, AtClosingLimit}
 use Rattle.demands.specs.Stops.{whyOf, ChargesAs, GoesOnAs, LeadsTo, endsFor, leavesFor}
 use Rattle.demands.proofs.Messages.{mk}
 use Rattle.demands.proofs.Reasons.{tick-why}
@@ -58,14 +58,14 @@ module _ (x : Settings) (r : Readings) (c : Cells) where
   leads-idle : (w : Why) (from to : State) → isIdle from ≡ false → LeadsTo x r c from w to → isIdle to ≡ endsFor w
   unfolding LeadsTo endsFor isIdle
   leads-idle GoesOn from to h e = on-open from to h e
-  leads-idle Silence200 from to h e = ap isIdle e
+  leads-idle AtSilenceLimit from to h e = ap isIdle e
   leads-idle NotWantedBefore from to h e = ap isIdle e
   leads-idle NotWantedCharging from to h e = ap isIdle e
   leads-idle CurrentAbove from to h e = ap isIdle e
   leads-idle PackFull from to h e = ap isIdle e
   leads-idle TimeUp from to h e = ap isIdle e
   leads-idle CellFull from to h e = ap isIdle e
-  leads-idle Count600 from to h e = ap isIdle e
+  leads-idle AtClosingLimit from to h e = ap isIdle e
 
   on-charging : (from to : State) → isCharging from ≡ true → GoesOnAs x r c from to → isCharging to ≡ true
   unfolding GoesOnAs isCharging
@@ -81,14 +81,14 @@ module _ (x : Settings) (r : Readings) (c : Cells) where
   leads-charging : (w : Why) (from to : State) → isCharging from ≡ true → LeadsTo x r c from w to → isCharging to ≡ not (leavesFor w)
   unfolding LeadsTo leavesFor isCharging
   leads-charging GoesOn from to h e = on-charging from to h e
-  leads-charging Silence200 from to h e = ap isCharging e
+  leads-charging AtSilenceLimit from to h e = ap isCharging e
   leads-charging NotWantedBefore from to h e = ap isCharging e
   leads-charging NotWantedCharging from to h e = ap isCharging e
   leads-charging CurrentAbove from to h e = ap isCharging e
   leads-charging PackFull from to h e = ap isCharging e
   leads-charging TimeUp from to h e = ap isCharging e
   leads-charging CellFull from to h e = ap isCharging e
-  leads-charging Count600 from to h e = ap isCharging e
+  leads-charging AtClosingLimit from to h e = ap isCharging e
 
   idle-in : (a b n : ℕ) (st : State) → st ≡ Idle → literalTick x r c (mk a b n st) ≡ mk a b n st
   unfolding literalTick literalAdvance literalIn turnedBy turnIn turnOf

@@ -1,3 +1,4 @@
+pub mod Limits
 pub mod With
 pub mod Machine
 pub mod InStep

@@ -19,6 +19,7 @@ use Rattle.states.specs.declared.State.the-variants.{Charging}
 use Rattle.outcomes.specs.Offer.{acceptedOf, stationMost}
 use Rattle.outcomes.specs.Message.{goneOut}
 use Rattle.session.specs.declared.Session.{Session}
+use Rattle.demands.specs.Limits.{silenceLimit, firstEcp}
 use Rattle.demands.specs.Apart.{Event, FrameReceived, TickMade, RecordWritten, RecordRead, accepts, isRead}
 use Rattle.demands.specs.Says.{Says}
 
@@ -57,7 +58,7 @@ besides UntilVerified n Cem = false
 besides UntilCmp n Cim = false
 besides UntilCmp n (Cvm b) = true
 besides UntilCmp n (Cmp o) = true
-besides UntilCmp n (Crm b) = not (b && goneOut 5 n)
+besides UntilCmp n (Crm b) = not (b && goneOut firstEcp n)
 besides UntilCmp n (Ccs b) = true
 besides UntilCmp n (Cst b) = false
 besides UntilCmp n Cem = false
@@ -86,7 +87,7 @@ module _ (x : Settings) (st : ℕ) (o : Offer) where
     Passes : {k : Stretch} {n b : ℕ} {e : Event} {es : List Event} → Passing x st e → Follows k n b es → Follows k n b (e ∷ es)
     -- an accepted tick: charge is wanted, and fewer than 200 have gone by since the station was last heeded
     Ticks : {k : Stretch} {n b : ℕ} {r : Readings} {v : List ℕ} {t : List ℤ} {old : List ℕ} {es : List Event}
-        → accepts r v t old ≡ true → wantedOf r ≡ true → b < 200
+        → accepts r v t old ≡ true → wantedOf r ≡ true → b < silenceLimit
         → Follows k (n + 1) (b + 1) es → Follows k n b (TickMade r v t old ∷ es)
     Speaks : {k : Stretch} {n b id : ℕ} {s : List ℕ} {m : ChargeMessage} {es : List Event}
         → Says x st m id s → besides k n m ≡ true → Follows k n 0 es → Follows k n b (FrameReceived id s ∷ es)
@@ -99,6 +100,6 @@ module _ (x : Settings) (st : ℕ) (o : Offer) where
         → Says x st (Cvm true) id s → 1 ≤ n → Follows UntilCmp 0 0 es → Follows UntilCvm n b (FrameReceived id s ∷ es)
     -- after at least 6 ticks a CMP that the yes rule accepts
     Offers : {n b id : ℕ} {s : List ℕ} {es : List Event}
-        → Says x st (Cmp o) id s → acceptedOf x o ≡ true → 6 ≤ n → Follows UntilCrm 0 0 es → Follows UntilCmp n b (FrameReceived id s ∷ es)
+        → Says x st (Cmp o) id s → acceptedOf x o ≡ true → firstEcp + 1 ≤ n → Follows UntilCrm 0 0 es → Follows UntilCmp n b (FrameReceived id s ∷ es)
     -- after at least 1 tick CRM AA
     Starts : {n b id : ℕ} {s : List ℕ} → Says x st (Crm true) id s → 1 ≤ n → Follows UntilCrm n b (FrameReceived id s ∷ [])

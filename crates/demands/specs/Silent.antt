@@ -10,6 +10,7 @@ use Rattle.charge_messages.specs.declared.ChargeMessage.the-variants.{Cim, Cvm,
 use Rattle.states.specs.declared.State.{State}
 use Rattle.states.specs.declared.State.the-variants.{Idle, Offered, Unverified, Parameters, Ready, Charging, Stopping, Error}
 use Rattle.controller.specs.declared.Controller.{Controller}
+use Rattle.demands.specs.Limits.{silenceLimit, closingLimit}
 use Rattle.demands.specs.Apart.{Event, FrameReceived, TickMade, RecordWritten, RecordRead, accepts, after, noSession, fromStation}
 use Rattle.demands.specs.Says.{Says}
 
@@ -112,6 +113,6 @@ repeated (suc n) e = e ∷ repeated n e
 abbrev pub EndsBy : ℕ → Type 0
 EndsBy n = (c : Controller) (es : List Event) → Silence c es → n ≤ ticksIn es → endsWithin c es ≡ true
 
--- "within 801 accepted ticks"
+-- "within 801 accepted ticks": silence runs up to its limit, the next tick enters Error, and its count runs up to its own
 abbrev pub longest : ℕ
-longest = 801
+longest = silenceLimit + 1 + closingLimit

@@ -21,12 +21,13 @@ use Rattle.states.specs.declared.State.the-variants.{Idle, Offered, Unverified,
 use Rattle.turns.specs.Turns.{cellFull, packFull, estOf, estThen}
 use Rattle.session.specs.declared.Session.{Session}
 use Rattle.literal.specs.Literal.{older}
+use Rattle.demands.specs.Limits.{silenceLimit, closingLimit, driveLimit, restLimit, holdLimit, leastRequest, mostDrives}
 
 -- the rule that holds, or that none does
 pub data Why : Type 0 where
   GoesOn : Why
   -- Offered to Charging: silence 200 enters Error
-  Silence200 : Why
+  AtSilenceLimit : Why
   -- Offered to Ready: charge is not wanted
   NotWantedBefore : Why
   -- Charging: charge is not wanted; current above maximum; pack voltage at or above maximum; a Drive or a Hold has had its time; a cell at or
@@ -37,34 +38,34 @@ pub data Why : Type 0 where
   TimeUp : Why
   CellFull : Why
   -- Stopping and Error end at count 600
-  Count600 : Why
+  AtClosingLimit : Why
 
 -- a Drive or a Hold has had its 18000 ticks
 unfoldable pub timeUp : Phase → Bool
-timeUp (Drive request cycle time) = leb 18000 time
+timeUp (Drive request cycle time) = leb driveLimit time
 timeUp (Rest request cycle time) = false
-timeUp (Hold time) = leb 18000 time
+timeUp (Hold time) = leb holdLimit time
 
 -- the tick is one of Hold: Hold goes on, or a Rest has had its 6000 ticks and Hold follows, its half being under 60 or six Drives done
 unfoldable pub inHold : Phase → Bool
 inHold (Drive request cycle time) = false
-inHold (Rest request cycle time) = leb 6000 time && (ltb (request / 2) 60 || leb 6 cycle)
+inHold (Rest request cycle time) = leb restLimit time && (ltb (request / 2) leastRequest || leb mostDrives cycle)
 inHold (Hold time) = true
 
 module _ (x : Settings) (r : Readings) (c : Cells) where
   abbrev pub whyWaiting : ℕ → Why
-  whyWaiting silence = cond (leb 200 silence) Silence200 (cond (wantedOf r) GoesOn NotWantedBefore)
+  whyWaiting silence = cond (leb silenceLimit silence) AtSilenceLimit (cond (wantedOf r) GoesOn NotWantedBefore)
 
   abbrev pub whyCharging : ℕ → Phase → Why
   whyCharging silence p =
-      cond (leb 200 silence) Silence200
+      cond (leb silenceLimit silence) AtSilenceLimit
       (cond (wantedOf r)
       (cond (aboveOf (r .current) (x .current)) CurrentAbove
       (cond (packFull x r) PackFull (cond (timeUp p) TimeUp (cond (inHold p && cellFull x c) CellFull GoesOn))))
       NotWantedCharging)
 
   abbrev pub whyClosing : ℕ → Why
-  whyClosing count = cond (leb 600 count) Count600 GoesOn
+  whyClosing count = cond (leb closingLimit count) AtClosingLimit GoesOn
 
   unfoldable pub whyIn : ℕ → ℕ → State → Why
   whyIn count silence Idle = GoesOn
@@ -102,35 +103,35 @@ module _ (x : Settings) (r : Readings) (c : Cells) where
   -- the state that each leads to
   unfoldable pub LeadsTo : State → Why → State → Type 0
   LeadsTo from GoesOn to = GoesOnAs from to
-  LeadsTo from Silence200 to = to ≡ Error
+  LeadsTo from AtSilenceLimit to = to ≡ Error
   LeadsTo from NotWantedBefore to = to ≡ Idle
   LeadsTo from NotWantedCharging to = to ≡ stoppedFor Other
   LeadsTo from CurrentAbove to = to ≡ stoppedFor Other
   LeadsTo from PackFull to = to ≡ stoppedFor PackVoltage
   LeadsTo from TimeUp to = to ≡ stoppedFor Other
   LeadsTo from CellFull to = to ≡ stoppedFor HoldCell
-  LeadsTo from Count600 to = to ≡ Idle
+  LeadsTo from AtClosingLimit to = to ≡ Idle
 
 -- which of them end a session
 unfoldable pub endsFor : Why → Bool
 endsFor GoesOn = false
-endsFor Silence200 = false
+endsFor AtSilenceLimit = false
 endsFor NotWantedBefore = true
 endsFor NotWantedCharging = false
 endsFor CurrentAbove = false
 endsFor PackFull = false
 endsFor TimeUp = false
 endsFor CellFull = false
-endsFor Count600 = true
+endsFor AtClosingLimit = true
 
 -- which take a session out of Charging, to Error or to Stopping; the two that end a session are of other states, and leave theirs
 unfoldable pub leavesFor : Why → Bool
 leavesFor GoesOn = false
-leavesFor Silence200 = true
+leavesFor AtSilenceLimit = true
 leavesFor NotWantedBefore = true
 leavesFor NotWantedCharging = true
 leavesFor CurrentAbove = true
 leavesFor PackFull = true
 leavesFor TimeUp = true
 leavesFor CellFull = true
-leavesFor Count600 = true
+leavesFor AtClosingLimit = true
