@@ -24,7 +24,7 @@ use Rattle.controller.specs.declared.Controller.{Controller}
 use Rattle.controller.specs.declared.Answer.{Answer}
 use Rattle.refusals.specs.Frame.{isIdle, listed}
 use Rattle.controller.specs.Frame.{refused, mayCharge, frameTo}
-use Rattle.demands.specs.Apart.{chargeIn, queryIn, isCharge, isQuery}
+use Rattle.demands.specs.Events.{chargeIn, queryIn, isCharge, isQuery}
 use Rattle.demands.specs.Checks.{messageIn}
 use Rattle.demands.specs.Says.{chargeOf, Says}
 use Rattle.demands.proofs.Tests.{second}

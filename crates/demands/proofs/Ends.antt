@@ -26,7 +26,7 @@ use Rattle.refusals.specs.Frame.{isIdle}
 use Rattle.controller.specs.Frame.{refused, frameTo}
 use Rattle.controller.specs.Start.{freshOf}
 use Rattle.demands.specs.Says.{Says}
-use Rattle.demands.specs.Apart.{Event, FrameReceived, TickMade, RecordWritten, RecordRead, accepts, readInto, isRead, after, afterAll, noSession}
+use Rattle.demands.specs.Events.{Event, FrameReceived, TickMade, RecordWritten, RecordRead, accepts, readInto, isRead, after, afterAll, noSession}
 use Rattle.demands.specs.Gone.{estGone}
 use Rattle.demands.specs.Kinds.{isCharging, isStopping}
 use Rattle.demands.specs.Stops.{whyOf, endsFor, leavesFor}

@@ -31,8 +31,8 @@ use Rattle.refusals.specs.Frame.{isIdle, listed}
 use Rattle.controller.specs.Frame.{frameTo}
 use Rattle.demands.specs.Limits.{silenceLimit}
 use Rattle.demands.specs.Machine.{paperNext}
-use Rattle.demands.specs.Apart.{Event, FrameReceived, TickMade, RecordWritten, RecordRead, accepts, readInto, isRead, after, afterAll, noSession, reaching}
-use Rattle.demands.specs.Silent.{endsWithin}
+use Rattle.demands.specs.Events.{Event, FrameReceived, TickMade, RecordWritten, RecordRead, accepts, readInto, isRead, after, afterAll, noSession, endsWithin}
+use Rattle.demands.specs.Apart.{reaching}
 use Rattle.demands.specs.Says.{Says}
 use Rattle.demands.specs.Over.{openedWith}
 use Rattle.demands.specs.Reach.{chargingWith, Stretch, UntilCvm, UntilVerified, UntilCmp, UntilCrm, besides, Passing}

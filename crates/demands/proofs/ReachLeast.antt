@@ -47,7 +47,7 @@ use Rattle.controller.specs.declared.Answer.{Answer}
 use Rattle.controller.specs.Frame.{frameTo}
 use Rattle.demands.specs.Limits.{silenceLimit, closingLimit, firstEcp}
 use Rattle.demands.specs.Machine.{paperNext}
-use Rattle.demands.specs.Apart.{Event, FrameReceived, TickMade, RecordWritten, RecordRead, accepts, readInto, after, afterAll}
+use Rattle.demands.specs.Events.{Event, FrameReceived, TickMade, RecordWritten, RecordRead, accepts, readInto, after, afterAll}
 use Rattle.demands.specs.Kinds.{isCharging}
 use Rattle.demands.specs.Silent.{isAcceptedTick, ticksIn}
 use Rattle.demands.proofs.View.{sessionMoved}

@@ -17,7 +17,8 @@ use Rattle.outcomes.specs.Offer.{acceptedOf}
 use Rattle.controller.specs.Start.{freshOf}
 use Rattle.refusals.specs.Frame.{notCan, flagsSet, notForUs, badSource, listed}
 use Rattle.demands.specs.Limits.{silenceLimit}
-use Rattle.demands.specs.Apart.{chargeIn, Event, FrameReceived, TickMade, afterAll, isQuery, queryIn, fromStation, reaches, reaching}
+use Rattle.demands.specs.Events.{chargeIn, Event, FrameReceived, TickMade, afterAll, isQuery, queryIn}
+use Rattle.demands.specs.Apart.{fromStation, reaches, reaching}
 use Rattle.demands.specs.Silent.{isAcceptedTick, ticksIn}
 use Rattle.demands.specs.Checks.{longEnough, messageIn}
 use Rattle.demands.specs.Says.{Says}

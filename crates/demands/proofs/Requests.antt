@@ -42,7 +42,7 @@ use Rattle.controller.specs.Start.{freshOf}
 use Rattle.controller.specs.Frame.{frameTo}
 use Rattle.demands.specs.Limits.{silenceLimit, closingLimit, firstEcp, driveLimit, restLimit, holdLimit, leastRequest, mostDrives}
 use Rattle.demands.specs.Machine.{paperNext}
-use Rattle.demands.specs.Apart.{Event, FrameReceived, TickMade, RecordWritten, RecordRead, accepts, readInto, after, afterAll}
+use Rattle.demands.specs.Events.{Event, FrameReceived, TickMade, RecordWritten, RecordRead, accepts, readInto, after, afterAll}
 use Rattle.demands.specs.Requests.{requestOf, requestIn}
 use Rattle.demands.proofs.View.{sessionMoved}
 use Rattle.demands.proofs.Comes.{Comes, Left, Took, came}

@@ -40,8 +40,9 @@ use Rattle.controller.specs.Frame.{frameTo}
 use Rattle.refusals.specs.Tick.{tickNumber}
 use Rattle.demands.specs.Limits.{silenceLimit, closingLimit}
 use Rattle.demands.specs.Machine.{paperNext}
-use Rattle.demands.specs.Apart.{Event, FrameReceived, TickMade, RecordWritten, RecordRead, accepts, readInto, after, noSession, fromStation}
-use Rattle.demands.specs.Silent.{Unheeded, Silence, quietAt, sendsNothing, isAcceptedTick, ticksIn, endsWithin, repeated, EndsBy, longest}
+use Rattle.demands.specs.Events.{Event, FrameReceived, TickMade, RecordWritten, RecordRead, accepts, readInto, after, noSession, endsWithin}
+use Rattle.demands.specs.Apart.{fromStation}
+use Rattle.demands.specs.Silent.{Unheeded, Silence, quietAt, sendsNothing, isAcceptedTick, ticksIn, EndsBy, longest}
 use Rattle.demands.proofs.Tests.{or-false}
 use Rattle.demands.proofs.Messages.{mk}
 use Rattle.demands.proofs.Apart.{kept-open}
@@ -264,6 +265,11 @@ pub silent-station : (c : Controller) (es : List Event) → sendsNothing (c .ses
 silent-station c es q = still (c .session .station) es c (λ o. refl) q
 
 -- ---- and 800 are not enough
+-- the same event so many times
+unfoldable pub repeated : ℕ → Event → List Event
+repeated zero e = []
+repeated (suc n) e = e ∷ repeated n e
+
 module _ (x : Settings) (r : Readings) (c : Cells) (a b n : ℕ) where
   error-tick : leb closingLimit n ≡ false → literalTick x r c (mk a b n Error) ≡ mk a b (n + 1) Error
   unfolding literalTick literalAdvance literalIn counted turnedBy turnIn turnOf errorOf

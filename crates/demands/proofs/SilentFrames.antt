@@ -21,7 +21,8 @@ use Rattle.controller.specs.declared.Controller.{Controller}
 use Rattle.refusals.specs.Frame.{isIdle}
 use Rattle.controller.specs.Frame.{frameTo}
 use Rattle.demands.specs.Limits.{firstEcp}
-use Rattle.demands.specs.Apart.{FrameReceived, noSession, fromStation}
+use Rattle.demands.specs.Events.{FrameReceived, noSession}
+use Rattle.demands.specs.Apart.{fromStation}
 use Rattle.demands.specs.Says.{Says}
 use Rattle.demands.specs.Kinds.{isStopping}
 use Rattle.demands.specs.Silent.{feeds, Unheeded}

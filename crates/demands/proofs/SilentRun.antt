@@ -8,10 +8,10 @@ use mathlib.Core.List.{[], _∷_}
 use lib.IntN.{pos}
 use Rattle.controller.specs.declared.Controller.{Controller}
 use Rattle.controller.specs.Start.{freshOf}
-use Rattle.demands.specs.Apart.{Event, FrameReceived, TickMade, after}
-use Rattle.demands.specs.Silent.{Unheeded, Silence, isAcceptedTick, ticksIn, endsWithin, repeated, EndsBy}
+use Rattle.demands.specs.Events.{Event, FrameReceived, TickMade, after, endsWithin}
+use Rattle.demands.specs.Silent.{Unheeded, Silence, isAcceptedTick, ticksIn, EndsBy}
 use Rattle.demands.specs.Over.{openedWith}
-use Rattle.demands.proofs.Silent.{zeros, quietReadings, such-a-tick, not-within-800}
+use Rattle.demands.proofs.Silent.{repeated, zeros, quietReadings, such-a-tick, not-within-800}
 use Rattle.demands.proofs.Reach.{cim-opens}
 use Rattle.demands.proofs.ReachRun.{ours, is-listed, cimData, says-cim}
 

@@ -34,9 +34,9 @@ use Rattle.controller.specs.declared.Controller.{Controller}
 use Rattle.demands.specs.Limits.{silenceLimit, closingLimit}
 use Rattle.demands.specs.Machine.{paperNext}
 use Rattle.refusals.specs.Frame.{isIdle}
-use Rattle.demands.specs.Apart.{Event, FrameReceived, TickMade, RecordWritten, RecordRead, accepts, readInto, after, noSession}
+use Rattle.demands.specs.Events.{Event, FrameReceived, TickMade, RecordWritten, RecordRead, accepts, readInto, after, noSession, endsWithin}
 use Rattle.demands.specs.Says.{Says}
-use Rattle.demands.specs.Silent.{feeds, Unheeded, Silence, ticksIn, endsWithin, longest}
+use Rattle.demands.specs.Silent.{feeds, Unheeded, Silence, ticksIn, longest}
 use Rattle.demands.specs.SilentSlips.{isCim, isHandshake, SaysOnly}
 use Rattle.demands.proofs.Comes.{kept-settings}
 use Rattle.demands.proofs.Apart.{kept-open}

@@ -15,7 +15,8 @@ use Rattle.controller.specs.Start.{freshOf, startWith, startOf}
 use Rattle.controller.specs.Frame.{frameTo}
 use Rattle.controller.specs.Tick.{chargeFrames, broadcastFrames, cellFrames, tickFrames, accepted}
 use Rattle.demands.specs.Machine.{Call, Read, Receive, Tick, Write, Box, NoController, Using, Gave, paperNext, started, boxAfter, seenOf, boxAt, numberSeen, framesSeen}
-use Rattle.demands.specs.Apart.{Event, FrameReceived, TickMade, callOf, accepts, after, afterAll, sentAt}
+use Rattle.demands.specs.Events.{Event, FrameReceived, TickMade, callOf, accepts, after, afterAll}
+use Rattle.demands.specs.Apart.{sentAt}
 use Rattle.demands.specs.Unmoved.{broadcastsAt, cellsAt}
 use Rattle.demands.specs.Since.{Since, InUse}
 

@@ -20,7 +20,7 @@ use Rattle.literal.specs.Literal.{literalIn, literalAdvance, literalTick}
 use Rattle.controller.specs.declared.Controller.{Controller}
 use Rattle.refusals.specs.Frame.{isIdle}
 use Rattle.demands.specs.Machine.{paperNext}
-use Rattle.demands.specs.Apart.{TickMade, accepts, after, noSession}
+use Rattle.demands.specs.Events.{TickMade, accepts, after, noSession}
 use Rattle.demands.specs.Kinds.{isCharging}
 use Rattle.demands.specs.Stops.{Why, GoesOn, AtSilenceLimit, NotWantedBefore, NotWantedCharging, CurrentAbove, PackFull, TimeUp, CellFull, AtClosingLimit}
 use Rattle.demands.specs.Stops.{whyOf, ChargesAs, GoesOnAs, LeadsTo, endsFor, leavesFor}

@@ -7,8 +7,8 @@ use mathlib.Core.Bool.{Bool, true, false, cond, false≢true}
 use mathlib.Core.List.{List, [], _∷_}
 use Rattle.session.specs.declared.Session.{Session}
 use Rattle.controller.specs.declared.Controller.{Controller}
-use Rattle.demands.specs.Apart.{Event, after, afterAll, noSession, reaches, reaching, Alike}
-use Rattle.demands.specs.Silent.{endsWithin}
+use Rattle.demands.specs.Events.{Event, after, afterAll, noSession, endsWithin}
+use Rattle.demands.specs.Apart.{reaches, reaching, Alike}
 use Rattle.demands.proofs.Apart.{unreached, kept-open, alike-event, same-noSession, then, back}
 
 -- a list that begins without a session

@@ -16,7 +16,7 @@ use Rattle.controller.specs.Frame.{kindOf, frameTo}
 use Rattle.controller.specs.Tick.{broadcastFrames, cellFrames}
 use Rattle.demands.specs.With.{withSession}
 use Rattle.demands.specs.Machine.{paperNext}
-use Rattle.demands.specs.Apart.{Event, FrameReceived, TickMade, RecordWritten, RecordRead, accepts, readInto, after, isCharge}
+use Rattle.demands.specs.Events.{Event, FrameReceived, TickMade, RecordWritten, RecordRead, accepts, readInto, after, isCharge}
 use Rattle.demands.specs.Unmoved.{isChargeMessage, others, Output, broadcastsAt, cellsAt, outputAt, outputs, Beside}
 use Rattle.demands.proofs.View.{sessionMoved, queriesMoved, View, Refused, Asks, Charges, view}
 use Rattle.demands.proofs.Comes.{Comes, Left, Took, came}

@@ -32,7 +32,7 @@ use Rattle.controller.specs.Frame as core
 use Rattle.controller.specs.Frame.{refused, mayCharge, contentTaken, chargeTo, kindOf, queryTo, knownTo, frameTo}
 use Rattle.demands.specs.With.{withSession, withQueries}
 use Rattle.demands.specs.Checks.{longEnough, messageIn}
-use Rattle.demands.specs.Apart.{chargeIn, queryIn, isCharge, isQuery}
+use Rattle.demands.specs.Events.{chargeIn, queryIn, isCharge, isQuery}
 
 -- ---- the core's answer to a frame, in one equation
 -- the session moved on, and nothing else of the controller

@@ -8,7 +8,7 @@ use Rattle.messages.specs.Identifier.{identifierOf}
 use Rattle.frames.specs.declared.Frame.{Frame}
 use Rattle.controller.specs.declared.Controller.{Controller}
 use Rattle.demands.specs.Machine.{Using, paperNext, seenOf, framesSeen}
-use Rattle.demands.specs.Apart.{Event, callOf, after}
+use Rattle.demands.specs.Events.{Event, callOf, after}
 use Rattle.demands.specs.Kinds.{isStopping}
 
 -- among the frames is our EST to the session's station

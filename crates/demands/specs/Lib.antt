@@ -4,6 +4,7 @@ pub mod Machine
 pub mod InStep
 pub mod Calls
 pub mod WorkedRows
+pub mod Events
 pub mod Kinds
 pub mod Checks
 pub mod Says

@@ -11,7 +11,7 @@ use Rattle.session.specs.declared.Session.{Session}
 use Rattle.controller.specs.declared.Controller.{Controller}
 use Rattle.refusals.specs.Frame.{listed}
 use Rattle.controller.specs.Frame.{frameTo}
-use Rattle.demands.specs.Apart.{isCharge}
+use Rattle.demands.specs.Events.{isCharge}
 use Rattle.demands.specs.Says.{Says}
 
 -- a session just opened with a station

@@ -20,7 +20,7 @@ use Rattle.outcomes.specs.Offer.{acceptedOf, stationMost}
 use Rattle.outcomes.specs.Message.{goneOut}
 use Rattle.session.specs.declared.Session.{Session}
 use Rattle.demands.specs.Limits.{silenceLimit, firstEcp}
-use Rattle.demands.specs.Apart.{Event, FrameReceived, TickMade, RecordWritten, RecordRead, accepts, isRead}
+use Rattle.demands.specs.Events.{Event, FrameReceived, TickMade, RecordWritten, RecordRead, accepts, isRead}
 use Rattle.demands.specs.Says.{Says}
 
 -- the session where Charging begins, with the offer of the station's last CMP

@@ -1,9 +1,9 @@
 -- A session whose station falls silent ends within 801 accepted ticks (01, "What a reader can rely on"). Silence is the paper's: the station need
 -- not be still, it says nothing that the session heeds. For `within-801`, `silent-station` and `eight-hundred-are-not-enough`; that the table is what
 -- messages do: `unfed-refused` and `fed-silence`.
-use Prim.Native.Nat.{ℕ, zero, suc, _+_, _≤_}
+use Prim.Native.Nat.{ℕ, _+_, _≤_}
 use mathlib.Core.Path.{_≡_}
-use mathlib.Core.Bool.{Bool, true, false, not, cond, _&&_, _||_}
+use mathlib.Core.Bool.{Bool, true, false, not, cond, _&&_}
 use mathlib.Core.List.{List, [], _∷_}
 use Rattle.charge_messages.specs.declared.ChargeMessage.{ChargeMessage}
 use Rattle.charge_messages.specs.declared.ChargeMessage.the-variants.{Cim, Cvm, Cmp, Crm, Ccs, Cst, Cem}
@@ -11,7 +11,8 @@ use Rattle.states.specs.declared.State.{State}
 use Rattle.states.specs.declared.State.the-variants.{Idle, Offered, Unverified, Parameters, Ready, Charging, Stopping, Error}
 use Rattle.controller.specs.declared.Controller.{Controller}
 use Rattle.demands.specs.Limits.{silenceLimit, closingLimit}
-use Rattle.demands.specs.Apart.{Event, FrameReceived, TickMade, RecordWritten, RecordRead, accepts, after, noSession, fromStation}
+use Rattle.demands.specs.Events.{Event, FrameReceived, TickMade, RecordWritten, RecordRead, accepts, after, noSession, endsWithin}
+use Rattle.demands.specs.Apart.{fromStation}
 use Rattle.demands.specs.Says.{Says}
 
 -- Which charge messages of its station a session heeds, by its state (01, "Session by message", and number 11). In Offered every one, the CIM that
@@ -98,16 +99,6 @@ isAcceptedTick (RecordRead s) = false
 unfoldable pub ticksIn : List Event → ℕ
 ticksIn [] = 0
 ticksIn (e ∷ es) = cond (isAcceptedTick e) 1 0 + ticksIn es
-
--- there is no session at some place of the list: before it, between two events or after the last
-unfoldable pub endsWithin : Controller → List Event → Bool
-endsWithin c [] = noSession c
-endsWithin c (e ∷ es) = noSession c || endsWithin (after c e) es
-
--- the same event so many times
-unfoldable pub repeated : ℕ → Event → List Event
-repeated zero e = []
-repeated (suc n) e = e ∷ repeated n e
 
 -- a session whose station falls silent has ended by so many accepted ticks, whatever others send
 abbrev pub EndsBy : ℕ → Type 0

@@ -7,7 +7,7 @@ use mathlib.Core.List.{List, [], _∷_}
 use Rattle.settings.specs.declared.Settings.{Settings}
 use Rattle.charge_messages.specs.declared.ChargeMessage.{ChargeMessage}
 use Rattle.charge_messages.specs.declared.ChargeMessage.the-variants.{Cim, Cvm, Cmp, Crm, Ccs, Cst, Cem}
-use Rattle.demands.specs.Apart.{Event, FrameReceived, TickMade, RecordWritten, RecordRead}
+use Rattle.demands.specs.Events.{Event, FrameReceived, TickMade, RecordWritten, RecordRead}
 use Rattle.demands.specs.Says.{Says}
 
 unfoldable pub isCim : ChargeMessage → Bool

@@ -6,7 +6,7 @@ use Rattle.settings.specs.declared.Settings.{Settings}
 use Rattle.controller.specs.declared.Controller.{Controller}
 use Rattle.controller.specs.Start.{freshOf}
 use Rattle.demands.specs.Machine.{Box, NoController, Using}
-use Rattle.demands.specs.Apart.{Event, afterAll}
+use Rattle.demands.specs.Events.{Event, afterAll}
 
 -- settings of which a fresh controller was made, and the events since
 pub record Since (c : Controller) : Type 0 where
