@@ -1,4 +1,5 @@
--- Demand 3, first half: whatever other addresses send, an open session goes as it would without them, up to its end. Assumes nothing.
+-- Demand 3, first half: whatever other addresses send, an open session goes as it would without them, up to its end.
+-- Assumes nothing.
 use Prim.Native.Nat.{ℕ}
 use mathlib.Core.Path.{_≡_, refl, ap, sym, subst, _∙_}
 use mathlib.Core.Bool.{Bool, true, false, not, cond, _&&_, false≢true}
@@ -149,6 +150,8 @@ record AlikeAfter (asks : Bool) (a b : Answer) : Type 0 where
   number : asks ≡ false → a .number ≡ b .number
 
 module _ (c d : Controller) (a : Alike c d) where
+  -- by the cases of the view: refused; a query, which moves the queries alone; a charge message, which goes by settings and
+  -- session
   by-case : (id : ℕ) (l : List ℕ) → View (c .settings .own) id l → AlikeAfter (isQuery id) (frameTo c id l) (frameTo d id l)
   unfolding sessionMoved queriesMoved
   by-case id l (Refused n h each) =
@@ -273,8 +276,9 @@ unfolding Alone life reaching rest
 alone st [] c d a k o = refl
 alone st (e ∷ es) c d a k o = one-more st e es (alone st es) c d a k o (reaches st e) refl
 
--- two controllers with the same settings and the same open session, and two lists of events by which the same reaches the session: the
--- session ends at the same place in both or in neither, and everything that is seen of it up to there agrees
+-- two controllers with the same settings and the same open session, and two lists of events by which the same reaches
+-- the session: the session ends at the same place in both or in neither, and everything that is seen of it up to there
+-- agrees
 pub undisturbed : (c d : Controller) (ks ls : List Event) → noSession c ≡ false → Alike c d
     → reaching (c .session .station) ks ≡ reaching (c .session .station) ls → life c ks ≡ life d ls
 unfolding Alone

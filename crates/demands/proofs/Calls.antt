@@ -1,6 +1,6 @@
--- Demand 2, of the entry points themselves: whatever is called, in whatever order, what the calls gave is exactly what the paper's machine
--- gives: its numbers, its bytes and, as their records in the buffers, its frames; and the controller in use is in step with the machine's. It follows from the entry points'
--- promises alone. Assumes nothing.
+-- Demand 2, of the entry points themselves: whatever is called, in whatever order, what the calls gave is exactly what
+-- the paper's machine gives: its numbers, its bytes and, as their records in the buffers, its frames; and the
+-- controller in use is in step with the machine's. It follows from the entry points' promises alone. Assumes nothing.
 use mathlib.Core.Path.{_≡_, refl, sym, ap, _∙_}
 use mathlib.Core.List.{List, [], _∷_}
 use Rattle.controller.specs.Tick.{tickNext}

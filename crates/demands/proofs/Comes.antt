@@ -1,5 +1,6 @@
--- What a frame comes to, of one controller, by the cases of the view: settings and session are as they were, and if it is a charge message it is refused
--- by a number that is not 0; or no check refuses it and the session takes its message. Assumes nothing.
+-- What a frame comes to, of one controller, by the cases of the view: settings and session are as they were, and if it
+-- is a charge message it is refused by a number that is not 0; or no check refuses it and the session takes its
+-- message. Assumes nothing.
 use Prim.Native.Nat.{ℕ}
 use mathlib.Core.Path.{_≡_, refl, sym, ap, subst, _∙_}
 use mathlib.Core.Bool.{Bool, true, false, cond, _&&_, false≢true}

@@ -1,6 +1,7 @@
--- Demand 2: over any sequence of calls, from no controller on, the code gives what the paper says: the numbers, the bytes written, the frames
--- sent and the later contents of each lent buffer, call for call, however long a session lasts and however many there were before.
--- The entry points' promises are this machine: `tick-is-the-machine` and the three after it. Assumes nothing.
+-- Demand 2: over any sequence of calls, from no controller on, the code gives what the paper says: the numbers, the
+-- bytes written, the frames sent and the later contents of each lent buffer, call for call, however long a session
+-- lasts and however many there were before. The entry points' promises are this machine: `tick-is-the-machine` and the
+-- three after it. Assumes nothing.
 use Prim.Native.Nat.{ℕ, _+_, _*_}
 use mathlib.Core.Path.{_≡_, refl, ap}
 use mathlib.Core.Bool.{Bool, true, false, cond}

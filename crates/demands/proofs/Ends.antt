@@ -1,5 +1,5 @@
--- The insurer's first question, "which message, in which state, may end a charge?": exactly the events of `EndsSession` end a session, after any
--- run, and exactly those of `EndsCharge` end a charge. Assumes nothing.
+-- The insurer's first question, "which message, in which state, may end a charge?": exactly the events of `EndsSession`
+-- end a session, after any run, and exactly those of `EndsCharge` end a charge. Assumes nothing.
 use Prim.Native.Nat.{ℕ}
 use mathlib.Core.Path.{_≡_, refl, sym, ap, subst, _∙_}
 use mathlib.Core.Bool.{Bool, true, false, not, _&&_, false≢true}
@@ -225,7 +225,8 @@ module _ (x : Settings) (es : List Event) where
       → noSession (after now-in-use e) ≡ true
   each-ends-a-session e h k = event-ends now-in-use e h (ungone (estGone false (freshOf x) es) e (est-gone x es) k)
 
-  -- THE INCIDENT's other form: an acknowledgement that comes in Stopping before an EST of ours has gone out is answered 11 and changes nothing
+  -- THE INCIDENT's other form: an acknowledgement that comes in Stopping before an EST of ours has gone out is answered
+  -- 11 and changes nothing
   pub early-acknowledgement : (id : ℕ) (s : List ℕ) → isStopping (now-in-use .session .state) ≡ true → estGone false (freshOf x) es ≡ false
       → Says (now-in-use .settings) (now-in-use .session .station) (Cst true) id s → frameTo now-in-use id s ≡ refused 11 now-in-use
   early-acknowledgement id s h g says =

@@ -1,5 +1,6 @@
--- "An EST has gone out since entry" (01, "Session by message", Stopping): in Stopping the count is above 0 exactly where an EST of ours is among
--- the frames sent since Stopping began, over any run from a fresh controller. Assumes nothing.
+-- "An EST has gone out since entry" (01, "Session by message", Stopping): in Stopping the count is above 0 exactly
+-- where an EST of ours is among the frames sent since Stopping began, over any run from a fresh controller. Assumes
+-- nothing.
 use Prim.Native.Nat.{ℕ, _+_}
 use native.Mathlib.Omega.{arith}
 use mathlib.Core.Path.{_≡_, refl, sym, ap, _∙_}

@@ -1,4 +1,5 @@
--- Which charge messages end a session, which end a charge, and what they make of Stopping's count, state by state. Assumes nothing.
+-- Which charge messages end a session, which end a charge, and what they make of Stopping's count, state by state.
+-- Assumes nothing.
 use Prim.Native.Nat.{ℕ}
 use mathlib.Core.Path.{_≡_, refl, sym}
 use mathlib.Core.Bool.{Bool, true, false, not, cond, _&&_, false≢true}
@@ -20,6 +21,7 @@ use Rattle.demands.specs.Kinds.{isCharging, isStopping}
 use Rattle.demands.specs.Ends.{messageEnds, messageLeaves}
 use Rattle.demands.proofs.Tests.{same}
 
+-- a session by its parts
 abbrev pub mk : ℕ → ℕ → ℕ → State → Session
 mk station silence count st = record { station = station; silence = silence; count = count; state = st }
 

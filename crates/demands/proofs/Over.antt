@@ -1,6 +1,6 @@
--- What a frame means once its session is over: in Idle, whoever sends it and whatever it holds, it is a well-formed CIM from a listed station
--- and opens a session with that station, or it leaves the session as it was; and a charge message that is no such CIM is refused by
--- number. And each such CIM opens one. Assumes nothing.
+-- What a frame means once its session is over: in Idle, whoever sends it and whatever it holds, it is a well-formed CIM
+-- from a listed station and opens a session with that station, or it leaves the session as it was; and a charge message
+-- that is no such CIM is refused by number. And each such CIM opens one. Assumes nothing.
 use Prim.Native.Nat.{ℕ}
 use mathlib.Core.Logic.{_⊎_, inl, inr}
 use mathlib.Core.Path.{_≡_, refl, ap, _∙_}
@@ -98,7 +98,8 @@ module _ (c : Controller) (id : ℕ) (s : List ℕ) (h : c .session .state ≡ I
         session = ap (λ (a : Answer). a .controller .session) k ∙ opened;
       }
 
-  -- what else a source says, it says in vain: 11 where it is a listed station, 9 where it is not, and nothing is changed
+  -- what else a source says, it says in vain: 11 where it is a listed station, 9 where it is not, and nothing is
+  -- changed
   module _ (source : ℕ) (m : ChargeMessage) (says : Says (c .settings) source m id s) (refuses : inIdle m ≡ Refuse) where
     refused-11 : sessionMoved c (messageOf (c .settings) source (c .session) m) ≡ refused 11 c
     unfolding sessionMoved messageOf appliedOf outcomeOf sessionAfter

@@ -1,6 +1,7 @@
--- A session cannot be kept from Charging by others: a station whose CIM was taken and which then follows the handshake (specs/Reach.antt) is in
--- Charging after its CRM AA, whatever other addresses send in between (`reaches-charging`). In ticks: eight accepted ones are enough
--- (proofs/ReachRun.antt has such a run), and with fewer no session comes to Charging (proofs/ReachLeast.antt). Assumes nothing.
+-- A session cannot be kept from Charging by others: a station whose CIM was taken and which then follows the handshake
+-- (specs/Reach.antt) is in Charging after its CRM AA, whatever other addresses send in between (`reaches-charging`). In
+-- ticks: eight accepted ones are enough (proofs/ReachRun.antt has such a run), and with fewer no session comes to
+-- Charging (proofs/ReachLeast.antt). Assumes nothing.
 use Prim.Native.Nat.{ℕ, _+_, _≤_, _<_}
 use native.Mathlib.Omega.{arith}
 use mathlib.Core.Path.{_≡_, refl, ap, sym, subst, _∙_}
@@ -42,7 +43,8 @@ use Rattle.demands.proofs.Comes.{kept-settings}
 use Rattle.demands.proofs.Over.{each-opens}
 use Rattle.demands.proofs.Together.{left-out}
 use Rattle.demands.proofs.ReachFrames.{frame-says, Spoken, Unsaid, Said, spoken}
-use Rattle.demands.proofs.ReachStretches.{mk, At, AtOffered, AtUnverified, AtParameters, AtLast, at-next, at-open, at-tick, Word, at-word}
+use Rattle.demands.proofs.ReachStretches.{At, AtOffered, AtUnverified, AtParameters, AtLast, at-next, at-open, at-tick, Word, at-word}
+use Rattle.demands.proofs.Messages.{mk}
 use Rattle.demands.proofs.ReachStretches.{Still, at-cim, cvm-delays, cvm-verifies, cvm-later, cmp-offers, crm-starts}
 
 -- ---- a list after which the session is `z`, and in which it stays open
@@ -224,8 +226,8 @@ module _ (x : Settings) (a : ℕ) (o : Offer) where
       (good-end (after c (FrameReceived id s)) (chargingWith x a o) charging-open
       (now-says k n b c w (Crm true) id s h ∙ crm-starts x a o n (w .silence) (w .count) (w .state) (w .place) (omega (arith, l))))
 
--- a station whose CIM was taken, and which follows the handshake in what reaches the session, whatever else comes in between: Charging, with
--- that station and its last offer
+-- a station whose CIM was taken, and which follows the handshake in what reaches the session, whatever else comes in
+-- between: Charging, with that station and its last offer
 pub reaches-charging : (c : Controller) (st : ℕ) (o : Offer) (es : List Event) → c .session ≡ openedWith st
     → Follows (c .settings) st o UntilCvm 0 0 (reaching st es) → afterAll c es .session ≡ chargingWith (c .settings) st o
 reaches-charging c st o es h f =

@@ -1,5 +1,5 @@
--- A frame in an open session: the session's station says a charge message by it, and the session takes that message, or the session is as it was.
--- Assumes nothing.
+-- A frame in an open session: the session's station says a charge message by it, and the session takes that message, or
+-- the session is as it was. Assumes nothing.
 use Prim.Native.Nat.{ℕ}
 use mathlib.Core.Path.{_≡_, ap, sym, subst, _∙_}
 use mathlib.Core.Bool.{false}

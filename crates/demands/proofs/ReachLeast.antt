@@ -1,7 +1,8 @@
--- No charge begins sooner than the handshake allows: from Idle, whoever sends what, a session is in Charging only after eight accepted ticks or more
--- (`no-sooner`): one for the EIM AA of Offered, six up to the first ECP of Parameters, one for the ERM AA of Ready. Each state with its count needs
--- so many ticks; a frame never raises that number, and an accepted tick raises it by one at the most. That eight are enough is
--- `eight-are-enough` (proofs/ReachRun.antt). Assumes nothing.
+-- No charge begins sooner than the handshake allows: from Idle, whoever sends what, a session is in Charging only after
+-- eight accepted ticks or more (`no-sooner`): one for the EIM AA of Offered, six up to the first ECP of Parameters, one
+-- for the ERM AA of Ready. Each state with its count needs so many ticks; a frame never raises that number, and an
+-- accepted tick raises it by one at the most. That eight are enough is `eight-are-enough` (proofs/ReachRun.antt).
+-- Assumes nothing.
 use Prim.Native.Nat.{ℕ, _+_, _≤_}
 use native.Mathlib.Omega.{arith}
 use mathlib.Core.Path.{_≡_, refl, ap, _∙_}

@@ -1,6 +1,6 @@
--- That a station can follow the handshake: frames of the station 56 to us, F4, and two runs of which `from-cim-to-charging` says that they come to
--- Charging: one of eight accepted ticks and no more than it takes, and one in which the station repeats itself and others send in between. Assumes
--- nothing.
+-- That a station can follow the handshake: frames of the station 56 to us, F4, and two runs of which
+-- `from-cim-to-charging` says that they come to Charging: one of eight accepted ticks and no more than it takes, and
+-- one in which the station repeats itself and others send in between. Assumes nothing.
 use Prim.Native.Nat.{ℕ, _+_, _<_}
 use native.Mathlib.Omega.{arith}
 use mathlib.Core.Path.{_≡_, refl, ap}
@@ -169,8 +169,8 @@ query = FrameReceived 0x181b_f456 (zeros 8)
 abbrev cst-to-55 : Event
 cst-to-55 = FrameReceived 0x1816_5556 (0x00 ∷ 0x00 ∷ 0xaa ∷ [])
 
--- from the opening CIM on: a CVM AA before any EIM; CVM 00, and 00 again before AA; CRM AA and CMP before their time; a CMP that the yes rule does
--- not accept; then the last CMP, CRM AA before its ERM, CRM FF, and the CRM AA that counts
+-- from the opening CIM on: a CVM AA before any EIM; CVM 00, and 00 again before AA; CRM AA and CMP before their time; a
+-- CMP that the yes rule does not accept; then the last CMP, CRM AA before its ERM, CRM FF, and the CRM AA that counts
 pub busy : List Event
 busy =
     cvm-aa ∷ cim-57 ∷ cim ∷ tick ∷ cem-57

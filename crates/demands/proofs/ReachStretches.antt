@@ -1,5 +1,5 @@
--- A session in a stretch of the handshake (specs/Reach.antt): where it may be, and what the station's messages and a tick make of it. Assumes
--- nothing.
+-- A session in a stretch of the handshake (specs/Reach.antt): where it may be, and what the station's messages and a
+-- tick make of it. Assumes nothing.
 use Prim.Native.Nat.{ℕ, _+_, _≤_}
 use native.Mathlib.Omega.{arith}
 use mathlib.Core.Path.{_≡_, refl}
@@ -28,11 +28,10 @@ use Rattle.literal.specs.Literal.{grown, literalIn, literalAdvance, literalTick
 use Rattle.refusals.specs.Frame.{isIdle}
 use Rattle.demands.specs.Limits.{silenceLimit, firstEcp}
 use Rattle.demands.specs.Reach.{chargingWith, Stretch, UntilCvm, UntilVerified, UntilCmp, UntilCrm, besides}
+use Rattle.demands.proofs.Messages.{mk}
 
-abbrev pub mk : ℕ → ℕ → ℕ → State → Session
-mk a b n st = record { station = a; silence = b; count = n; state = st }
-
--- ---- where a session may be, `n` ticks into a stretch: a state and its count. Until its last CMP the station may have sent others, so that the
+-- ---- where a session may be
+-- `n` ticks into a stretch: a state and its count. Until its last CMP the station may have sent others, so that the
 -- session is in Ready
 pub data At (o : Offer) : Stretch → ℕ → State → ℕ → Type 0 where
   AtOffered : {n : ℕ} → At o UntilCvm n Offered n

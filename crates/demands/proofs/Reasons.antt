@@ -1,5 +1,5 @@
--- What a tick makes of each state, by the first of the paper's rules that holds: the reason of specs/Stops.antt leads where it says. Assumes
--- nothing.
+-- What a tick makes of each state, by the first of the paper's rules that holds: the reason of specs/Stops.antt leads
+-- where it says. Assumes nothing.
 use Prim.Native.Nat.{ℕ, _/_}
 use mathlib.Core.Path.{_≡_, refl, subst}
 use mathlib.Core.Bool.{Bool, true, false, cond, _&&_, _||_}

@@ -1,5 +1,6 @@
--- "Request R is the smaller of maximum current and the station's maximum": over any run, what a session asks for is never above the maximum current
--- of the settings in use; and tag 3 allows no more than 4000 (`read-in-range`, settings), so 4000 minus it is what ECR says. Assumes nothing.
+-- "Request R is the smaller of maximum current and the station's maximum": over any run, what a session asks for is
+-- never above the maximum current of the settings in use; and tag 3 allows no more than 4000 (`read-in-range`,
+-- settings), so 4000 minus it is what ECR says. Assumes nothing.
 use Prim.Native.Nat.{ℕ, _/_, _≤_}
 use native.Mathlib.Omega.{arith}
 use mathlib.Core.Path.{_≡_, refl, sym, ap, subst, _∙_}

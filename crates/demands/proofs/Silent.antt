@@ -1,5 +1,6 @@
--- A session whose station falls silent ends within 801 accepted ticks (01, "What a reader can rely on"), whatever other addresses send, and whatever
--- the station sends that the session does not heed; and what it takes to live through 800 (proofs/SilentRun.antt has such a run). Assumes nothing.
+-- A session whose station falls silent ends within 801 accepted ticks (01, "What a reader can rely on"), whatever other
+-- addresses send, and whatever the station sends that the session does not heed; and what it takes to live through 800
+-- (proofs/SilentRun.antt has such a run). Assumes nothing.
 use Prim.Native.Nat.{ℕ, zero, suc, _+_, _-_, _≤_, _<_}
 use native.Mathlib.Omega.{arith}
 use mathlib.Core.Path.{_≡_, refl, ap, sym, subst, _∙_}
@@ -284,10 +285,10 @@ module _ (x : Settings) (r : Readings) (c : Cells) (a b n : ℕ) where
   offered-tick h w = rw (h, w)
 
 module _ (r : Readings) (v : List ℕ) (t : List ℤ) (old : List ℕ) (taken : accepts r v t old ≡ true) (wants : wantedOf r ≡ true) where
-  abbrev beat : Event
-  beat = TickMade r v t old
+  abbrev tick : Event
+  tick = TickMade r v t old
 
-  ticks : (c : Controller) (s : Session) → c .session ≡ s → after c beat .session ≡ literalTick (c .settings) r (cellsOf v t) s
+  ticks : (c : Controller) (s : Session) → c .session ≡ s → after c tick .session ≡ literalTick (c .settings) r (cellsOf v t) s
   unfolding after paperNext
   ticks c s h = rw (taken, h)
 
@@ -299,32 +300,32 @@ module _ (r : Readings) (v : List ℕ) (t : List ℤ) (old : List ℕ) (taken : 
   unfolding noSession isIdle
   open-offered c a b n h = rw h
 
-  lives-error : (k : ℕ) (c : Controller) (a b n : ℕ) → c .session ≡ mk a b n Error → n + k ≤ closingLimit → endsWithin c (repeated k beat) ≡ false
+  lives-error : (k : ℕ) (c : Controller) (a b n : ℕ) → c .session ≡ mk a b n Error → n + k ≤ closingLimit → endsWithin c (repeated k tick) ≡ false
   unfolding endsWithin repeated
   lives-error zero c a b n h l = open-error c a b n h
   lives-error (suc k) c a b n h l =
       or-false (noSession c) _ (open-error c a b n h)
-      (lives-error k (after c beat) a b (n + 1)
+      (lives-error k (after c tick) a b (n + 1)
       (ticks c (mk a b n Error) h ∙ error-tick (c .settings) r (cellsOf v t) a b n (lt-leb closingLimit n (omega arith))) (omega arith))
 
-  lives-offered : (k : ℕ) (c : Controller) (a b n : ℕ) → c .session ≡ mk a b n Offered → b ≤ silenceLimit → b + k ≤ silenceLimit + closingLimit → endsWithin c (repeated k beat) ≡ false
+  lives-offered : (k : ℕ) (c : Controller) (a b n : ℕ) → c .session ≡ mk a b n Offered → b ≤ silenceLimit → b + k ≤ silenceLimit + closingLimit → endsWithin c (repeated k tick) ≡ false
   unfolding endsWithin repeated
   lives-offered zero c a b n h l g = open-offered c a b n h
   lives-offered (suc k) c a b n h l g =
       or-false (noSession c) _ (open-offered c a b n h)
-      (go (leb silenceLimit b) refl (λ p m q. lives-offered k (after c beat) a (b + 1) (n + 1) p m q))
+      (go (leb silenceLimit b) refl (λ p m q. lives-offered k (after c tick) a (b + 1) (n + 1) p m q))
     where
       go : (f : Bool) → leb silenceLimit b ≡ f
-          → (after c beat .session ≡ mk a (b + 1) (n + 1) Offered → b + 1 ≤ silenceLimit → b + 1 + k ≤ silenceLimit + closingLimit → endsWithin (after c beat) (repeated k beat) ≡ false)
-          → endsWithin (after c beat) (repeated k beat) ≡ false
+          → (after c tick .session ≡ mk a (b + 1) (n + 1) Offered → b + 1 ≤ silenceLimit → b + 1 + k ≤ silenceLimit + closingLimit → endsWithin (after c tick) (repeated k tick) ≡ false)
+          → endsWithin (after c tick) (repeated k tick) ≡ false
       go true e ih =
-          lives-error k (after c beat) a 0 1 (ticks c (mk a b n Offered) h ∙ late-tick (c .settings) r (cellsOf v t) a b n e)
+          lives-error k (after c tick) a 0 1 (ticks c (mk a b n Offered) h ∙ late-tick (c .settings) r (cellsOf v t) a b n e)
           (omega (arith, leb-true silenceLimit b e))
       go false e ih =
           ih (ticks c (mk a b n Offered) h ∙ offered-tick (c .settings) r (cellsOf v t) a b n e wants) (omega (arith, leb-false silenceLimit b e)) (omega arith)
 
   -- an Offered session that has just heeded its station lives through 800 accepted ticks that want charge
-  pub not-within-800 : (c : Controller) (a n : ℕ) → c .session ≡ mk a 0 n Offered → endsWithin c (repeated 800 beat) ≡ false
+  pub not-within-800 : (c : Controller) (a n : ℕ) → c .session ≡ mk a 0 n Offered → endsWithin c (repeated 800 tick) ≡ false
   not-within-800 c a n h = lives-offered 800 c a 0 n h (omega arith) (omega arith)
 
 -- there is such a tick: one cell of 3.30 V at 20 F, a buffer of 117 bytes, all readings 0 but 80 hex in status byte two

@@ -1,5 +1,6 @@
--- What a session heeds is `feeds`, no more and no less: a charge message that does not feed it is refused and leaves it as it was, one that does
--- returns its silence to 0. So a frame by which its station says nothing that is heeded leaves the session as it was. Assumes nothing.
+-- What a session heeds is `feeds`, no more and no less: a charge message that does not feed it is refused and leaves it
+-- as it was, one that does returns its silence to 0. So a frame by which its station says nothing that is heeded leaves
+-- the session as it was. Assumes nothing.
 use Prim.Native.Nat.{ℕ}
 use mathlib.Core.Path.{_≡_, refl, ap, sym, subst, _∙_}
 use mathlib.Core.Bool.{Bool, true, false, _&&_, false≢true}

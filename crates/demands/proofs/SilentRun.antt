@@ -1,5 +1,5 @@
--- 800 accepted ticks are not enough for a session whose station falls silent: a run from a fresh controller, by the CIM of the station 56 to us, F4,
--- and 800 ticks at which charge is wanted and nothing comes. Assumes nothing.
+-- 800 accepted ticks are not enough for a session whose station falls silent: a run from a fresh controller, by the CIM
+-- of the station 56 to us, F4, and 800 ticks at which charge is wanted and nothing comes. Assumes nothing.
 use Prim.Native.Nat.{ℕ, zero, suc}
 use native.Mathlib.Omega.{arith}
 use mathlib.Core.Path.{_≡_, refl, sym, _∙_}

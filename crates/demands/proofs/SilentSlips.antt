@@ -1,5 +1,6 @@
--- Two slips to shut out (01): a restarted station's CIM does not hold a session open in Parameters, and neither CRM nor any other message of the
--- handshake holds one open in Charging. Whatever else comes, the session has ended within 801 accepted ticks. Assumes nothing.
+-- Two slips to shut out (01): a restarted station's CIM does not hold a session open in Parameters, and neither CRM nor
+-- any other message of the handshake holds one open in Charging. Whatever else comes, the session has ended within 801
+-- accepted ticks. Assumes nothing.
 use Prim.Native.Nat.{ℕ, _≤_}
 use mathlib.Core.Path.{_≡_, refl, sym, ap, subst, _∙_}
 use mathlib.Core.Bool.{Bool, true, false, cond, false≢true}

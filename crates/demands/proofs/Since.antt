@@ -1,5 +1,5 @@
--- "Over any sequence of calls from the start" (demand 2): every controller in use is a fresh one after a run of events; and what a call is seen to do
--- is what the demands speak of. Assumes nothing.
+-- "Over any sequence of calls from the start" (demand 2): every controller in use is a fresh one after a run of events;
+-- and what a call is seen to do is what the demands speak of. Assumes nothing.
 use Prim.Native.Nat.{ℕ}
 use mathlib.Core.Path.{_≡_, refl, ap, _∙_}
 use mathlib.Core.Bool.{Bool, true, false, cond}

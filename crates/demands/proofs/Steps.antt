@@ -65,7 +65,7 @@ module _ (x : Settings) (source : ℕ) (t : Session) where
       either true = content-folds (contentOf k s)
       either false = refl
 
--- a received frame: the same number, and the code's next controller stands for the paper's
+-- a received frame, by the cases of the view: the same number, and the code's next controller stands for the paper's
 by-case : (c : Controller) (id : ℕ) (s : List ℕ) → View (c .settings .own) id s → codeAnswer (frameTo c id s) ≡ frameTo (codeOf c) id s
 unfolding codeOf sessionMoved queriesMoved
 by-case c id s (Refused n h each) = rw (each c refl, each (codeOf c) refl)

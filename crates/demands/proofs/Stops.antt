@@ -1,5 +1,6 @@
--- "Exactly which tick ends or stops a session, and why" (01, "Session by tick"): an accepted tick leads where the first of the paper's rules that
--- holds says, from every state, and a refused one changes nothing. So which ticks end a session, and which end a charge. Assumes nothing.
+-- "Exactly which tick ends or stops a session, and why" (01, "Session by tick"): an accepted tick leads where the first
+-- of the paper's rules that holds says, from every state, and a refused one changes nothing. So which ticks end a
+-- session, and which end a charge. Assumes nothing.
 use Prim.Native.Nat.{ℕ}
 use mathlib.Core.Path.{_≡_, refl, sym, ap, _∙_}
 use mathlib.Core.Bool.{Bool, true, false, not, cond, _&&_, false≢true}

@@ -1,6 +1,7 @@
--- Demand 3, first half, the place of the end: "the session ends at the same place in both or in neither". Take two lists of events by which
--- the same reaches an open session, say two corresponding beginnings of longer ones: it ends within both or within neither; and where it
--- does not, the session's record after them is the same. What cannot reach it never ends it. Assumes nothing.
+-- Demand 3, first half, the place of the end: "the session ends at the same place in both or in neither". Take two
+-- lists of events by which the same reaches an open session, say two corresponding beginnings of longer ones: it ends
+-- within both or within neither; and where it does not, the session's record after them is the same. What cannot reach
+-- it never ends it. Assumes nothing.
 use Prim.Native.Nat.{ℕ}
 use mathlib.Core.Path.{_≡_, refl, ap, sym, _∙_}
 use mathlib.Core.Bool.{Bool, true, false, cond, false≢true}

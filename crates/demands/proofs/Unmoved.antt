@@ -1,4 +1,5 @@
--- Demand 3, second half: charge messages never change a broadcast, a cell answer or the number that a query is given. Assumes nothing.
+-- Demand 3, second half: charge messages never change a broadcast, a cell answer or the number that a query is given.
+-- Assumes nothing.
 use Prim.Native.Nat.{ℕ}
 use mathlib.Core.Path.{_≡_, refl, ap, sym, _∙_}
 use mathlib.Core.Bool.{Bool, true, false, cond, false≢true}
@@ -21,7 +22,7 @@ use Rattle.demands.specs.Unmoved.{isChargeMessage, others, Output, broad
 use Rattle.demands.proofs.View.{sessionMoved, queriesMoved, View, Refused, Asks, Charges, view}
 use Rattle.demands.proofs.Comes.{Comes, Left, Took, came}
 
--- ---- a charge message leaves all but the session
+-- ---- a charge message leaves all but the session: it is refused, or the session takes it
 charge-leaves : (c : Controller) (id : ℕ) (l : List ℕ) (a : Answer) → Comes c id l a → isCharge id ≡ true → Beside (a .controller) c
 unfolding sessionMoved
 charge-leaves c id l a (Left u e n) h = rw (n h .answer)
@@ -32,11 +33,12 @@ record BesideAfter (a b : Answer) : Type 0 where
   beside : Beside (a .controller) (b .controller)
   number : a .number ≡ b .number
 
--- ---- two controllers that agree beside their sessions go on so, and say the same
+-- ---- two controllers that agree beside their sessions go on so, and the same comes out
 module _ (c d : Controller) (a : Beside c d) where
   same-own : d .settings .own ≡ c .settings .own
   same-own = sym (ap (λ (z : Controller). z .settings .own) a)
 
+  -- by the cases of the view: refused, and a query; a charge message it is not
   by-case : (id : ℕ) (l : List ℕ) → View (c .settings .own) id l → isCharge id ≡ false → BesideAfter (frameTo c id l) (frameTo d id l)
   unfolding queriesMoved
   by-case id l (Refused n h each) f = rw (each c refl, each d same-own) (record { beside = a; number = refl })
@@ -77,20 +79,20 @@ module _ (c d : Controller) (a : Beside c d) where
   unfolding cellFrames
   same-cells r v t = ap (λ (z : Controller). cellFrames z r v t) a
 
-  same-said : (e : Event) → isChargeMessage e ≡ false → outputAt c e ≡ outputAt d e
+  same-output : (e : Event) → isChargeMessage e ≡ false → outputAt c e ≡ outputAt d e
   unfolding outputAt broadcastsAt cellsAt isChargeMessage
-  same-said (FrameReceived id s) h = rw (h, same-frame id s h .number)
-  same-said (TickMade r v t old) h = rw (same-broadcasts r v t, same-cells r v t)
-  same-said (RecordWritten old) h = refl
-  same-said (RecordRead s) h = refl
+  same-output (FrameReceived id s) h = rw (h, same-frame id s h .number)
+  same-output (TickMade r v t old) h = rw (same-broadcasts r v t, same-cells r v t)
+  same-output (RecordWritten old) h = refl
+  same-output (RecordRead s) h = refl
 
--- a charge message is not said
-unsaid : (c : Controller) (e : Event) → isChargeMessage e ≡ true → outputAt c e ≡ []
+-- nothing comes out beside the session by a charge message
+no-output : (c : Controller) (e : Event) → isChargeMessage e ≡ true → outputAt c e ≡ []
 unfolding outputAt isChargeMessage
-unsaid c (FrameReceived id s) h = rw h
-unsaid c (TickMade r v t old) h = absurd (false≢true h)
-unsaid c (RecordWritten old) h = absurd (false≢true h)
-unsaid c (RecordRead s) h = absurd (false≢true h)
+no-output c (FrameReceived id s) h = rw h
+no-output c (TickMade r v t old) h = absurd (false≢true h)
+no-output c (RecordWritten old) h = absurd (false≢true h)
+no-output c (RecordRead s) h = absurd (false≢true h)
 
 unmoved-by : (c : Controller) (e : Event) → isChargeMessage e ≡ true → Beside (after c e) c
 unfolding after isChargeMessage
@@ -109,9 +111,9 @@ one-more : (e : Event) (es : List Event) → Deaf es → (c d : Controller) → 
     → outputAt c e ++ outputs (after c e) es ≡ outputs d (cond t (others es) (e ∷ others es))
 unfolding outputs
 one-more e es ih c d a true h =
-    ap (λ (l : List Output). l ++ outputs (after c e) es) (unsaid c e h) ∙ ih (after c e) d (then (after c e) c d (unmoved-by c e h) a)
+    ap (λ (l : List Output). l ++ outputs (after c e) es) (no-output c e h) ∙ ih (after c e) d (then (after c e) c d (unmoved-by c e h) a)
 one-more e es ih c d a false h =
-    ap (λ (l : List Output). l ++ outputs (after c e) es) (same-said c d a e h)
+    ap (λ (l : List Output). l ++ outputs (after c e) es) (same-output c d a e h)
     ∙ ap (λ (l : List Output). outputAt d e ++ l) (ih (after c e) (after d e) (beside-event c d a e h))
 
 deaf : (es : List Event) → Deaf es
@@ -119,7 +121,7 @@ unfolding outputs others
 deaf [] c d a = refl
 deaf (e ∷ es) c d a = one-more e es (deaf es) c d a (isChargeMessage e) refl
 
--- two controllers that agree beside their sessions, and two lists of events that differ only in charge messages: the same broadcasts, the
--- same cell answers and the same numbers to queries
+-- two controllers that agree beside their sessions, and two lists of events that differ only in charge messages: the
+-- same broadcasts, the same cell answers and the same numbers to queries
 pub unmoved : (c d : Controller) (ks ls : List Event) → Beside c d → others ks ≡ others ls → outputs c ks ≡ outputs d ls
 unmoved c d ks ls a h = deaf ks c d a ∙ (ap (outputs d) h ∙ sym (deaf ls d d refl))

@@ -1,6 +1,7 @@
--- What a frame comes to, told once, by the cases that every statement over frames goes by: one of the checks 3 to 8 refuses it, or it is a query, or
--- it is a charge message. The checks ask nothing of a controller but its own address, so controllers with the same address are in the same
--- case, and each case tells what each of them answers. No other file looks into the checks. Assumes nothing.
+-- What a frame comes to, told once, by the cases that every statement over frames goes by: one of the checks 3 to 8
+-- refuses it, or it is a query, or it is a charge message. The checks ask nothing of a controller but its own address,
+-- so controllers with the same address are in the same case, and each case tells what each of them answers. No other
+-- file looks into the checks. Assumes nothing.
 use Prim.Native.Nat.{ℕ}
 use mathlib.Core.Path.{_≡_, refl, ap, subst, _∙_}
 use mathlib.Core.Bool.{Bool, true, false, cond, false≢true}
@@ -69,7 +70,7 @@ frame-view c id s =
     (across c _ s (notForUs (c .settings .own) (partsOf id)) _ _ refl
     (across c _ s (badSource (c .settings .own) (partsOf id)) _ _ refl (known-view c _ s (recognizedOf (partsOf id .pf))))))
 
--- ---- a charge message, told by settings and session alone: refused by 9 or 10, or taken or refused by 11 by the session
+-- ---- a charge message, by settings and session alone: refused by 9 or 10, else taken or refused by 11
 unfoldable pub contentOn : Settings → ℕ → Session → Content → Taken
 contentOn x source t (content.Allowed m) = messageOf x source t m
 contentOn x source t (content.Refused n) = record { number = n; session = t }
@@ -91,7 +92,7 @@ charge-on c source k s = both (mayCharge c source) (contentOf k s)
     both true (content.Refused n) = refl
     both false m = refl
 
--- ---- what the checks tell of a frame's PF: what they make a message is that message, and they refuse no charge message by 0
+-- ---- what the checks tell of a PF: what they make a message is that message, and no charge message is refused by 0
 unfoldable Fits : Recognized → Recognized → Type 0
 Fits p (recognized.As m) = p ≡ recognized.As m
 Fits p (recognized.Refused n) = chargeIn p ≡ true → n ≡ 0 → ⊥

@@ -1,4 +1,5 @@
--- The rows of 01, "Worked rows", marked P, as one table. Most are proved beside the definitions that they are about. Assumes nothing.
+-- The rows of 01, "Worked rows", marked P, as one table. Most are proved beside the definitions that they are about.
+-- Assumes nothing.
 use Prim.Native.Nat.{ℕ}
 use mathlib.Core.Path.{_≡_, refl}
 use Rattle.settings.specs.declared.Settings.{Settings}

@@ -1,5 +1,5 @@
--- Demand 3, first half: whatever other addresses send, an open session goes as it would without them, up to its end. For `undisturbed`, and for the
--- place of the end `ends-together`, `same-until` and `unreached-never-ends`.
+-- Demand 3, first half: whatever other addresses send, an open session goes as it would without them, up to its end.
+-- For `undisturbed`, and for the place of the end `ends-together`, `same-until` and `unreached-never-ends`.
 use Prim.Native.Nat.{ℕ}
 use mathlib.Core.Bool.{Bool, true, false, not, cond, _&&_}
 use mathlib.Core.List.{List, [], _∷_, _++_}
@@ -32,8 +32,8 @@ unfoldable pub reaching : ℕ → List Event → List Event
 reaching st [] = []
 reaching st (e ∷ es) = cond (reaches st e) (e ∷ reaching st es) (reaching st es)
 
--- what is seen of a session: after a frame of its station the number answered, after a tick the charge frames sent (a refused tick sends none), with
--- the session then; or that new settings were read
+-- what is seen of a session: after a frame of its station the number answered, after a tick the charge frames sent (a
+-- refused tick sends none), with the session then; or that new settings were read
 pub data Moment : Type 0 where
   AfterFrame : ℕ → Session → Moment
   AfterTick : List Frame → Session → Moment

@@ -1,5 +1,6 @@
--- Demand 2, of the entry points themselves: calls made one after the other, each with the answer that it gave, and each answer keeping its
--- entry point's promise. Here nothing is said of how a controller goes on but what the promises say. For `demand-2-of-calls`.
+-- Demand 2, of the entry points themselves: calls made one after the other, each with the answer that it gave, and each
+-- answer keeping its entry point's promise. Here nothing is said of how a controller goes on but what the promises say.
+-- For `demand-2-of-calls`.
 use Prim.Native.Nat.{ℕ}
 use mathlib.Core.List.{List, [], _∷_}
 use lib.IntN.{ℤ}
@@ -28,8 +29,8 @@ callIn (DidReceive id s a) = Receive id s
 callIn (DidTick r v t old new k) = Tick r v t old
 callIn (DidWrite old new w) = Write old
 
--- it kept its entry point's promise, by the name that the entry point's contract has it by; without a controller there is nothing to call but
--- `read`
+-- it kept its entry point's promise, by the name that the entry point's contract has it by; without a controller there
+-- is nothing to call but `read`
 unfoldable pub KeepsPromise : Box → CallMade → Type 0
 KeepsPromise b (DidRead s a) = ReadIs s a
 KeepsPromise NoController (DidReceive id s a) = ⊥

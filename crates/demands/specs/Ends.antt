@@ -1,6 +1,7 @@
--- The insurer's first question: "which message, in which state, may end a charge?" What can end a session, and what can end a charge, after 01,
--- "Session by message" and "Session by tick". For `what-ends-a-session` and `each-ends-a-session`, `what-ends-a-charge` and `each-ends-a-charge`; of typed
--- messages `which-message-ends-a-session` and `which-message-ends-a-charge`.
+-- The insurer's first question: "which message, in which state, may end a charge?" What can end a session, and what can
+-- end a charge, after 01, "Session by message" and "Session by tick". For `what-ends-a-session` and
+-- `each-ends-a-session`, `what-ends-a-charge` and `each-ends-a-charge`; of typed messages
+-- `which-message-ends-a-session` and `which-message-ends-a-charge`.
 use Prim.Native.Nat.{ℕ}
 use mathlib.Core.Path.{_≡_}
 use mathlib.Core.Bool.{Bool, true, false, not, _&&_}
@@ -19,8 +20,8 @@ use Rattle.demands.specs.Kinds.{isStopping}
 use Rattle.demands.specs.Stops.{whyOf, endsFor, leavesFor}
 use Rattle.demands.specs.Says.{Says}
 
--- which charge messages end an open session, by its state and count: CEM; CST AA in Stopping, once an EST has gone out since Stopping
--- began (Stopping sends an EST at each tick, and its count is the ticks that it has had)
+-- which charge messages end an open session, by its state and count: CEM; CST AA in Stopping, once an EST has gone out
+-- since Stopping began (Stopping sends an EST at each tick, and its count is the ticks that it has had)
 unfoldable pub messageEnds : State → ℕ → ChargeMessage → Bool
 messageEnds st n Cim = false
 messageEnds st n (Cvm b) = false
@@ -40,9 +41,10 @@ messageLeaves (Ccs b) = not b
 messageLeaves (Cst b) = true
 messageLeaves Cem = true
 
--- THE ANSWER: what ends a session, by cases. A frame: it comes from the session's station, no check refuses it, and it is a CEM; or it is a CST
--- AA, the session is in Stopping, and an EST of ours has gone out since Stopping began. A tick: it is accepted, and charge is not wanted before
--- Charging, or Stopping or Error are at count 600. New settings, which make a fresh controller
+-- THE ANSWER: what ends a session, by cases. A frame: it comes from the session's station, no check refuses it, and it
+-- is a CEM; or it is a CST AA, the session is in Stopping, and an EST of ours has gone out since Stopping began. A
+-- tick: it is accepted, and charge is not wanted before Charging, or Stopping or Error are at count 600. New settings,
+-- which make a fresh controller
 pub data EndsSession (gone : Bool) (c : Controller) : Event → Type 0 where
   ByCem : {id : ℕ} {s : List ℕ} → Says (c .settings) (c .session .station) Cem id s → EndsSession gone c (FrameReceived id s)
   ByCst : {id : ℕ} {s : List ℕ} → Says (c .settings) (c .session .station) (Cst true) id s
@@ -51,8 +53,8 @@ pub data EndsSession (gone : Bool) (c : Controller) : Event → Type 0 where
       → endsFor (whyOf (c .settings) r (cellsOf v t) (c .session)) ≡ true → EndsSession gone c (TickMade r v t old)
   ByReading : {s : List ℕ} → isRead (readOf s) ≡ true → EndsSession gone c (RecordRead s)
 
--- and what ends a charge. A frame: it comes from the session's station, no check refuses it, and it is CCS 00, CST of either value, or CEM. A tick:
--- it is accepted, and one of the rules that leave Charging holds. New settings
+-- and what ends a charge. A frame: it comes from the session's station, no check refuses it, and it is CCS 00, CST of
+-- either value, or CEM. A tick: it is accepted, and one of the rules that leave Charging holds. New settings
 pub data EndsCharge (c : Controller) : Event → Type 0 where
   AtCcs : {id : ℕ} {s : List ℕ} → Says (c .settings) (c .session .station) (Ccs false) id s → EndsCharge c (FrameReceived id s)
   AtCst : {id : ℕ} {s : List ℕ} {b : Bool} → Says (c .settings) (c .session .station) (Cst b) id s → EndsCharge c (FrameReceived id s)

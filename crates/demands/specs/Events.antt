@@ -1,4 +1,5 @@
--- What can happen to a controller in use, and the controller after it: the calls of `Machine` (`after-is`). For every statement over a run of events.
+-- What can happen to a controller in use, and the controller after it: the calls of `Machine` (`after-is`). For every
+-- statement over a run of events.
 use Prim.Native.Nat.{ℕ}
 use mathlib.Core.Bool.{Bool, true, false, cond, _||_}
 use mathlib.Core.List.{List, [], _∷_}

@@ -1,5 +1,5 @@
--- The limits of a session (01, "Session by tick"), each by its name. For `what-a-tick-does` (Stops), `within-801` (Silent), `reaches-charging` (Reach) and
--- `worked-rows`.
+-- The limits of a session (01, "Session by tick"), each by its name. For `what-a-tick-does` (Stops), `within-801`
+-- (Silent), `reaches-charging` (Reach) and `worked-rows`.
 use Prim.Native.Nat.{ℕ}
 
 -- "silence 200 enters Error"

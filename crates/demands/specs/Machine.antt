@@ -1,7 +1,8 @@
--- The paper's machine over any list of calls (01, "What the box does", "Numbers returned"). A controller's rules for a frame, for what a tick sends
--- and for settings are the definitions that the entry points promise; how counts go on is the paper's: the number of accepted
--- ticks, a state's count, silence and a phase's time are one more after each accepted tick, for ever. For `demand-2` and
--- `demand-2-of-calls`; all that is said of events is said of this machine too (`after-is`, `seen-tick`, `seen-frame`, `in-use`).
+-- The paper's machine over any list of calls (01, "What the box does", "Numbers returned"). A controller's rules for a
+-- frame, for what a tick sends and for settings are the definitions that the entry points promise; how counts go on is
+-- the paper's: the number of accepted ticks, a state's count, silence and a phase's time are one more after each
+-- accepted tick, for ever. For `demand-2` and `demand-2-of-calls`; all that is said of events is said of this machine
+-- too (`after-is`, `seen-tick`, `seen-frame`, `in-use`).
 use Prim.Native.Nat.{ℕ, _+_, _*_}
 use mathlib.Core.Bool.{cond}
 use mathlib.Core.List.{List, [], _∷_, _++_}
@@ -25,8 +26,8 @@ use Rattle.refusals.specs.Tick.{tickNumber}
 use Rattle.controller.specs.Tick.{tickFrames, accepted}
 use Rattle.demands.specs.With.{withSession, withBeat, withQueries}
 
--- a call, with all that it lends: a settings record; a received frame, identifier and data; a tick, its readings, voltages and
--- temperatures and the buffer as it is; settings written, with the buffer as it is
+-- a call, with all that it lends: a settings record; a received frame, identifier and data; a tick, its readings,
+-- voltages and temperatures and the buffer as it is; settings written, with the buffer as it is
 pub data Call : Type 0 where
   Read : List ℕ → Call
   Receive : ℕ → List ℕ → Call
@@ -38,8 +39,8 @@ pub data Box : Type 0 where
   NoController : Box
   Using : Controller → Box
 
--- what a call gives back: the number, the bytes written, the frames sent, and the later contents of the lent buffer (of a call that
--- lends none, none). Without a controller there is nothing to call
+-- what a call gives back: the number, the bytes written, the frames sent, and the later contents of the lent buffer (of
+-- a call that lends none, none). Without a controller there is nothing to call
 pub data Seen : Type 0 where
   Nothing : Seen
   Gave : ℕ → ℕ → List Frame → List ℕ → Seen

@@ -1,5 +1,5 @@
--- What a frame means once its session is over: nothing, unless it opens the next (01, "Session by message": "Idle: CIM from a listed station
--- opens Offered with it"). For `over`, `each-opens` and `replayed-acknowledgement`.
+-- What a frame means once its session is over: nothing, unless it opens the next (01, "Session by message": "Idle: CIM
+-- from a listed station opens Offered with it"). For `over`, `each-opens` and `replayed-acknowledgement`.
 use Prim.Native.Nat.{ℕ}
 use mathlib.Core.Path.{_≡_}
 use mathlib.Core.Bool.{true}

@@ -1,7 +1,8 @@
--- A session cannot be kept from Charging by others: what it is for a station whose CIM was taken to follow the handshake (01, "Session by
--- message"). It goes in stretches, each ended by one frame of the station: until its CVM; if that was 00, until its CVM AA; until its last CMP;
--- until its CRM AA. In each it may repeat itself and say other things besides, in any number and order. For `reaches-charging` and
--- `from-cim-to-charging`, and the runs `eight-are-enough` and `busy-charges` to which they apply.
+-- A session cannot be kept from Charging by others: what it is for a station whose CIM was taken to follow the
+-- handshake (01, "Session by message"). It goes in stretches, each ended by one frame of the station: until its CVM; if
+-- that was 00, until its CVM AA; until its last CMP; until its CRM AA. In each it may repeat itself and say other
+-- things besides, in any number and order. For `reaches-charging` and `from-cim-to-charging`, and the runs
+-- `eight-are-enough` and `busy-charges` to which they apply.
 use Prim.Native.Nat.{ℕ, _+_, _≤_, _<_}
 use mathlib.Core.Path.{_≡_}
 use mathlib.Core.Bool.{Bool, true, false, not, _&&_}
@@ -34,9 +35,10 @@ pub data Stretch : Type 0 where
   UntilCmp : Stretch
   UntilCrm : Stretch
 
--- What the station may say besides, `n` accepted ticks into a stretch, in the order of "Session by message": what does nothing, what stays, and what
--- is refused there as out of step. Not CST and CEM, by which it would stop or end the session, and not what would move the handshake on at another
--- place than is meant. A CIM after Offered goes by `Passing`
+-- What the station may say besides, `n` accepted ticks into a stretch, in the order of "Session by message": what does
+-- nothing, what stays, and what is refused there as out of step. Not CST and CEM, by which it would stop or end the
+-- session, and not what would move the handshake on at another place than is meant. A CIM after Offered goes by
+-- `Passing`
 unfoldable pub besides : Stretch → ℕ → ChargeMessage → Bool
 -- Offered: CIM does nothing. CVM is taken once an EIM AA has gone out; besides, it may come as long as none has
 besides UntilCvm n Cim = true
@@ -54,7 +56,8 @@ besides UntilVerified n (Crm b) = true
 besides UntilVerified n (Ccs b) = true
 besides UntilVerified n (Cst b) = false
 besides UntilVerified n Cem = false
--- Parameters, and Ready up to the last CMP: each CMP may come. In Ready CRM AA may be taken; besides, it may come as long as no ECP has gone out
+-- Parameters, and Ready up to the last CMP: each CMP may come. In Ready CRM AA may be taken; besides, it may come as
+-- long as no ECP has gone out
 besides UntilCmp n Cim = false
 besides UntilCmp n (Cvm b) = true
 besides UntilCmp n (Cmp o) = true
@@ -62,7 +65,8 @@ besides UntilCmp n (Crm b) = not (b && goneOut firstEcp n)
 besides UntilCmp n (Ccs b) = true
 besides UntilCmp n (Cst b) = false
 besides UntilCmp n Cem = false
--- Ready, since the last CMP: CRM is taken if an ERM AA has gone out since that CMP, and 00 and FF stay; besides, AA may come as long as none has
+-- Ready, since the last CMP: CRM is taken if an ERM AA has gone out since that CMP, and 00 and FF stay; besides, AA may
+-- come as long as none has
 besides UntilCrm n Cim = false
 besides UntilCrm n (Cvm b) = true
 besides UntilCrm n (Cmp o) = false
@@ -71,8 +75,9 @@ besides UntilCrm n (Ccs b) = true
 besides UntilCrm n (Cst b) = false
 besides UntilCrm n Cem = false
 
--- what may come at any time, and leaves silence alone: a frame by which the station says no charge message (another's, a cell query, or one that 3
--- to 10 refuse) or only a CIM; a refused tick; settings written; a settings record that is refused
+-- what may come at any time, and leaves silence alone: a frame by which the station says no charge message (another's,
+-- a cell query, or one that 3 to 10 refuse) or only a CIM; a refused tick; settings written; a settings record that is
+-- refused
 unfoldable pub Passing : Settings → ℕ → Event → Type 0
 Passing x st (FrameReceived id s) = (m : ChargeMessage) → Says x st m id s → m ≡ Cim
 Passing x st (TickMade r v t old) = accepts r v t old ≡ false
@@ -81,8 +86,8 @@ Passing x st (RecordRead s) = isRead (readOf s) ≡ false
 
 -- the station `st` of a controller with the settings `x`; `o` is the offer of its last CMP
 module _ (x : Settings) (st : ℕ) (o : Offer) where
-  -- over a list of events, from a place `n` accepted ticks into a stretch and `b` after the station was last heeded, the station follows the
-  -- handshake up to its CRM AA
+  -- over a list of events, from a place `n` accepted ticks into a stretch and `b` after the station was last heeded,
+  -- the station follows the handshake up to its CRM AA
   pub data Follows : Stretch → ℕ → ℕ → List Event → Type 0 where
     Passes : {k : Stretch} {n b : ℕ} {e : Event} {es : List Event} → Passing x st e → Follows k n b es → Follows k n b (e ∷ es)
     -- an accepted tick: charge is wanted, and fewer than 200 have gone by since the station was last heeded

@@ -1,5 +1,5 @@
--- "Request R is the smaller of maximum current and the station's maximum", and after each Rest it is halved (01, "Session by tick"). What a session
--- asks for, in tenths of an ampere. For `never-above-the-maximum`.
+-- "Request R is the smaller of maximum current and the station's maximum", and after each Rest it is halved (01,
+-- "Session by tick"). What a session asks for, in tenths of an ampere. For `never-above-the-maximum`.
 use Prim.Native.Nat.{ℕ}
 use Rattle.phases.specs.declared.Phase.{Phase}
 use Rattle.phases.specs.declared.Phase.the-variants.{Drive, Rest, Hold}

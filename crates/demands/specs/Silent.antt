@@ -1,6 +1,6 @@
--- A session whose station falls silent ends within 801 accepted ticks (01, "What a reader can rely on"). Silence is the paper's: the station need
--- not be still, it says nothing that the session heeds. For `within-801`, `silent-station` and `eight-hundred-are-not-enough`; that the table is what
--- messages do: `unfed-refused` and `fed-silence`.
+-- A session whose station falls silent ends within 801 accepted ticks (01, "What a reader can rely on"). Silence is the
+-- paper's: the station need not be still, it says nothing that the session heeds. For `within-801`, `silent-station`
+-- and `eight-hundred-are-not-enough`; that the table is what messages do: `unfed-refused` and `fed-silence`.
 use Prim.Native.Nat.{ℕ, _+_, _≤_}
 use mathlib.Core.Path.{_≡_}
 use mathlib.Core.Bool.{Bool, true, false, not, cond, _&&_}
@@ -15,9 +15,10 @@ use Rattle.demands.specs.Events.{Event, FrameReceived, TickMade, RecordW
 use Rattle.demands.specs.Apart.{fromStation}
 use Rattle.demands.specs.Says.{Says}
 
--- Which charge messages of its station a session heeds, by its state (01, "Session by message", and number 11). In Offered every one, the CIM that
--- does nothing and those out of step too; from there to Ready every one, "unless it is a CIM"; in Charging "only CCS", and CST and CEM, by which it
--- leaves Charging; in Stopping CST and CEM; in Error CEM. In Idle there is no session. All others are silence
+-- Which charge messages of its station a session heeds, by its state (01, "Session by message", and number 11). In
+-- Offered every one, the CIM that does nothing and those out of step too; from there to Ready every one, "unless it is
+-- a CIM"; in Charging "only CCS", and CST and CEM, by which it leaves Charging; in Stopping CST and CEM; in Error CEM.
+-- In Idle there is no session. All others are silence
 unfoldable pub feeds : State → ChargeMessage → Bool
 feeds Idle m = false
 feeds Offered m = true
@@ -64,8 +65,8 @@ feeds Error (Ccs b) = false
 feeds Error (Cst b) = false
 feeds Error Cem = true
 
--- an event by which the session's station says nothing that the session heeds. By another's frame, a cell query, and a frame that 3 to 10 refuse, it
--- says nothing at all
+-- an event by which the session's station says nothing that the session heeds. By another's frame, a cell query, and a
+-- frame that 3 to 10 refuse, it says nothing at all
 unfoldable pub Unheeded : Controller → Event → Type 0
 Unheeded c (FrameReceived id s) =
     (m : ChargeMessage) → Says (c .settings) (c .session .station) m id s → feeds (c .session .state) m ≡ false
@@ -104,6 +105,7 @@ ticksIn (e ∷ es) = cond (isAcceptedTick e) 1 0 + ticksIn es
 abbrev pub EndsBy : ℕ → Type 0
 EndsBy n = (c : Controller) (es : List Event) → Silence c es → n ≤ ticksIn es → endsWithin c es ≡ true
 
--- "within 801 accepted ticks": silence runs up to its limit, the next tick enters Error, and its count runs up to its own
+-- "within 801 accepted ticks": silence runs up to its limit, the next tick enters Error, and its count runs up to its
+-- own
 abbrev pub longest : ℕ
 longest = silenceLimit + 1 + closingLimit

@@ -1,5 +1,5 @@
--- Two slips to shut out (01): "letting CRM feed the silence count in Charging, or a restarted station's CIM hold a session open in Parameters". For
--- `cim-holds-nothing` and `crm-holds-nothing`.
+-- Two slips to shut out (01): "letting CRM feed the silence count in Charging, or a restarted station's CIM hold a
+-- session open in Parameters". For `cim-holds-nothing` and `crm-holds-nothing`.
 use Prim.Native.Nat.{ℕ}
 use mathlib.Core.Path.{_≡_}
 use mathlib.Core.Bool.{Bool, true, false}

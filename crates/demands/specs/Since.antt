@@ -1,5 +1,5 @@
--- "Over any sequence of calls from the start" (demand 2): every controller in use is a fresh one after a run of events, so what is shown of runs from
--- a fresh controller holds after any calls. For `in-use`.
+-- "Over any sequence of calls from the start" (demand 2): every controller in use is a fresh one after a run of events,
+-- so what is shown of runs from a fresh controller holds after any calls. For `in-use`.
 use mathlib.Core.Path.{_≡_}
 use mathlib.Core.List.{List}
 use Rattle.settings.specs.declared.Settings.{Settings}

@@ -1,6 +1,6 @@
--- "Exactly which tick ends or stops a session, and why": what a tick makes of each state, by the first of the paper's rules that holds (01,
--- "Session by tick"). For `what-a-tick-does`, `what-a-refused-tick-does` and `what-a-tick-does-in-idle`, and for `which-tick-ends-a-session` and
--- `which-tick-ends-a-charge`.
+-- "Exactly which tick ends or stops a session, and why": what a tick makes of each state, by the first of the paper's
+-- rules that holds (01, "Session by tick"). For `what-a-tick-does`, `what-a-refused-tick-does` and
+-- `what-a-tick-does-in-idle`, and for `which-tick-ends-a-session` and `which-tick-ends-a-charge`.
 use Prim.Native.Nat.{ℕ, _/_}
 use mathlib.Core.Path.{_≡_}
 use mathlib.Core.Bool.{Bool, true, false, cond, _&&_, _||_}
@@ -30,8 +30,8 @@ pub data Why : Type 0 where
   AtSilenceLimit : Why
   -- Offered to Ready: charge is not wanted
   NotWantedBefore : Why
-  -- Charging: charge is not wanted; current above maximum; pack voltage at or above maximum; a Drive or a Hold has had its time; a cell at or
-  -- above maximum in Hold
+  -- Charging: charge is not wanted; current above maximum; pack voltage at or above maximum; a Drive or a Hold has had
+  -- its time; a cell at or above maximum in Hold
   NotWantedCharging : Why
   CurrentAbove : Why
   PackFull : Why
@@ -46,7 +46,8 @@ timeUp (Drive request cycle time) = leb driveLimit time
 timeUp (Rest request cycle time) = false
 timeUp (Hold time) = leb holdLimit time
 
--- the tick is one of Hold: Hold goes on, or a Rest has had its 6000 ticks and Hold follows, its half being under 60 or six Drives done
+-- the tick is one of Hold: Hold goes on, or a Rest has had its 6000 ticks and Hold follows, its half being under 60 or
+-- six Drives done
 unfoldable pub inHold : Phase → Bool
 inHold (Drive request cycle time) = false
 inHold (Rest request cycle time) = leb restLimit time && (ltb (request / 2) leastRequest || leb mostDrives cycle)
@@ -85,7 +86,8 @@ module _ (x : Settings) (r : Readings) (c : Cells) where
   ChargesAs (turned.On p) to = to ≡ Charging (older p)
   ChargesAs (turned.Stop cause) to = ⊥
 
-  -- where no rule holds the state is as it was, but that Charging goes on by its phase, and Stopping has its EST bytes fixed by now
+  -- where no rule holds the state is as it was, but that Charging goes on by its phase, and Stopping has its EST bytes
+  -- fixed by now
   unfoldable pub GoesOnAs : State → State → Type 0
   GoesOnAs Idle to = to ≡ Idle
   GoesOnAs Offered to = to ≡ Offered
@@ -124,7 +126,8 @@ endsFor TimeUp = false
 endsFor CellFull = false
 endsFor AtClosingLimit = true
 
--- which take a session out of Charging, to Error or to Stopping; the two that end a session are of other states, and leave theirs
+-- which take a session out of Charging, to Error or to Stopping; the two that end a session are of other states, and
+-- leave theirs
 unfoldable pub leavesFor : Why → Bool
 leavesFor GoesOn = false
 leavesFor AtSilenceLimit = true

@@ -1,5 +1,5 @@
--- Demand 3, second half: charge messages never change a broadcast, a cell answer or the number that a query is given. For `unmoved`; that these frames
--- are those that a tick is seen to send: `seen-tick`.
+-- Demand 3, second half: charge messages never change a broadcast, a cell answer or the number that a query is given.
+-- For `unmoved`; that these frames are those that a tick is seen to send: `seen-tick`.
 use Prim.Native.Nat.{ℕ}
 use mathlib.Core.Path.{_≡_}
 use mathlib.Core.Bool.{Bool, false, cond}
@@ -25,8 +25,8 @@ unfoldable pub others : List Event → List Event
 others [] = []
 others (e ∷ es) = cond (isChargeMessage e) (others es) (e ∷ others es)
 
--- what comes out beside the session: to a frame that is no charge message, so to each query, the number given; at a tick the broadcasts and the cell
--- frame sent, of which a refused one sends none
+-- what comes out beside the session: to a frame that is no charge message, so to each query, the number given; at a
+-- tick the broadcasts and the cell frame sent, of which a refused one sends none
 pub data Output : Type 0 where
   NumberGiven : ℕ → Output
   FramesSent : List Frame → List Frame → Output
@@ -47,7 +47,7 @@ unfoldable pub outputs : Controller → List Event → List Output
 outputs c [] = []
 outputs c (e ∷ es) = outputAt c e ++ outputs (after c e) es
 
--- the same settings, the same place in the broadcasts and the same waiting queries, whatever the sessions are: the one with the other's session is
--- the other
+-- the same settings, the same place in the broadcasts and the same waiting queries, whatever the sessions are: the one
+-- with the other's session is the other
 abbrev pub Beside : Controller → Controller → Type 0
 Beside c d = withSession c (d .session) ≡ d

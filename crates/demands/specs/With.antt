@@ -1,5 +1,5 @@
--- A controller with one part changed, the others as they were: a helper a field, so that a new field is added here and nowhere else. For the
--- machines of `demand-2`: `paperNext` and `codeOf`.
+-- A controller with one part changed, the others as they were: a helper a field, so that a new field is added here and
+-- nowhere else. For the machines of `demand-2`: `paperNext` and `codeOf`.
 use Rattle.session.specs.declared.Session.{Session}
 use Rattle.broadcasts.specs.declared.beat.Beat.{Beat}
 use Rattle.queries.specs.declared.Queries.{Queries}

@@ -1,5 +1,5 @@
--- "Rows marked P below are shown of the definitions, as one table under a single statement" (01, "What a reader can rely on"; "Worked
--- rows"). In the paper's order. For `worked-rows`.
+-- "Rows marked P below are shown of the definitions, as one table under a single statement" (01, "What a reader can
+-- rely on"; "Worked rows"). In the paper's order. For `worked-rows`.
 use Prim.Native.Nat.{ℕ, suc}
 use mathlib.Core.Path.{_≡_}
 use mathlib.Core.Bool.{Bool, true, false}
@@ -38,7 +38,8 @@ pub record WorkedRows : Type 0 where
   pub ps : (heartbeat : Bool) (r : Readings) (c : Cells) → psOf 0xf4 heartbeat r c .id ≡ 0x1cfa_20f4
   -- EEM is 081E56F4
   pub eem : (x : Settings) → x .own ≡ 0xf4 → eemOf x 0x56 .id ≡ 0x081e_56f4
-  -- 200.0 A is raw 2000; 1.2 A is 3988; -50.0 A is 4500 (`negsuc 499` is minus 500): measured, requested, and read in a CMP
+  -- 200.0 A is raw 2000; 1.2 A is 3988; -50.0 A is 4500 (`negsuc 499` is minus 500): measured, requested, and read in a
+  -- CMP
   pub raw-200 : rawOf (pos 2000) ≡ 2000
   pub raw-1-2 : rawOf (pos 12) ≡ 3988
   pub raw-minus-50 : rawOf (negsuc 499) ≡ 4500
@@ -50,7 +51,8 @@ pub record WorkedRows : Type 0 where
   -- maximum pack voltage 65535: 48 cells hold at 1704; 3 at 106
   pub hold-48 : (x : Settings) (c : Cells) → x .pack .0 ≡ 65535 → c .volts .count ≡ 48 → holdVoltage x c ≡ 1704
   pub hold-3 : (x : Settings) (c : Cells) → x .pack .0 ≡ 65535 → c .volts .count ≡ 3 → holdVoltage x c ≡ 106
-  -- 400 is asked 400, 200, 100, then Hold: each Drive goes to Rest at a full cell, each Rest of 6000 ticks to what follows
+  -- 400 is asked 400, 200, 100, then Hold: each Drive goes to Rest at a full cell, each Rest of 6000 ticks to what
+  -- follows
   pub asked-400 : startPhase 400 400 ≡ Drive 400 1 0
   pub rest-400 : turnedOf (Drive 400 1 0) true ≡ On (Rest 400 1 0)
   pub asked-200 : turnedOf (Rest 400 1 restLimit) false ≡ On (Drive 200 2 0)
