@@ -36,7 +36,8 @@ use Rattle.demands.specs.Says.{chargeOf, Says}
 use Rattle.demands.specs.Machine.{started, Using, paperNext, boxAfter}
 use Rattle.demands.specs.Events.{Event, FrameReceived, TickMade, RecordWritten, RecordRead, callOf, accepts, readInto, isRead, after, noSession, queryIn, isQuery}
 use Rattle.demands.specs.Apart.{fromStation, reaches, reaching, Moment, AfterFrame, sentAt, moments, life, Alike}
-use Rattle.demands.proofs.View.{pf-is, sessionMoved, queriesMoved, View, Refused, Asks, Charges, view}
+use Rattle.demands.proofs.FrameTo.{sessionMoved, queriesMoved}
+use Rattle.demands.proofs.View.{pf-is, View, Refused, Asks, Charges, view}
 use Rattle.demands.proofs.Comes.{Comes, Left, Took, came, kept-settings, station-is}
 
 read-into : (a : SettingsRead) (c : Controller) → started (startWith a) (Using c) ≡ Using (readInto a c)

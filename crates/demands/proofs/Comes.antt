@@ -29,7 +29,8 @@ use Rattle.demands.specs.Events.{chargeIn, queryIn, isCharge, isQuery}
 use Rattle.demands.specs.Checks.{messageIn}
 use Rattle.demands.specs.Says.{chargeOf, Says}
 use Rattle.demands.proofs.Tests.{second}
-use Rattle.demands.proofs.View.{sessionMoved, queriesMoved, contentOn, chargeOn, View, Refused, Asks, Charges, each-charge, view}
+use Rattle.demands.proofs.FrameTo.{sessionMoved, queriesMoved}
+use Rattle.demands.proofs.View.{contentOn, chargeOn, View, Refused, Asks, Charges, each-charge, view}
 
 -- allowed content is of the message that the PF says, and other content is refused by 10
 unfoldable ContentOf : Charge → Content → Type 0

@@ -43,7 +43,7 @@ use Rattle.demands.specs.Events.{Event, FrameReceived, TickMade, RecordW
 use Rattle.demands.specs.Kinds.{isStopping}
 use Rattle.demands.specs.Gone.{holdsEst, sendsEst, goneAfter, estGone}
 use Rattle.demands.proofs.Tests.{and-false, or-left, or-right}
-use Rattle.demands.proofs.View.{sessionMoved}
+use Rattle.demands.proofs.FrameTo.{sessionMoved}
 use Rattle.demands.proofs.Comes.{Comes, Left, Took, came}
 use Rattle.demands.proofs.Messages.{mk, enters-anew, stays-stopping}
 

@@ -22,7 +22,7 @@ use Rattle.controller.specs.Frame.{refused, mayCharge, frameTo}
 use Rattle.demands.specs.Says.{Says}
 use Rattle.demands.specs.Over.{openedWith, Opens, Ignored}
 use Rattle.demands.proofs.Tests.{first}
-use Rattle.demands.proofs.View.{sessionMoved}
+use Rattle.demands.proofs.FrameTo.{sessionMoved}
 use Rattle.demands.proofs.Comes.{Comes, Left, Took, came, says-taken, says-refused}
 
 -- in Idle the list decides

@@ -45,7 +45,7 @@ use Rattle.demands.specs.Limits.{silenceLimit, closingLimit, firstEcp, d
 use Rattle.demands.specs.Machine.{paperNext}
 use Rattle.demands.specs.Events.{Event, FrameReceived, TickMade, RecordWritten, RecordRead, accepts, readInto, after, afterAll}
 use Rattle.demands.specs.Requests.{requestOf, requestIn}
-use Rattle.demands.proofs.View.{sessionMoved}
+use Rattle.demands.proofs.FrameTo.{sessionMoved}
 use Rattle.demands.proofs.Comes.{Comes, Left, Took, came}
 
 -- ---- the start

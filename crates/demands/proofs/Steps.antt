@@ -31,7 +31,8 @@ use Rattle.controller.specs.Frame.{frameTo}
 use Rattle.controller.specs.Tick.{tickFrames, chargeFrames, broadcastFrames, cellFrames, tickNext}
 use Rattle.demands.specs.Machine.{paperNext}
 use Rattle.demands.specs.InStep.{codeOf}
-use Rattle.demands.proofs.View.{sessionMoved, queriesMoved, contentOn, chargeOn, View, Refused, Asks, Charges, view}
+use Rattle.demands.proofs.FrameTo.{sessionMoved, queriesMoved}
+use Rattle.demands.proofs.View.{contentOn, chargeOn, View, Refused, Asks, Charges, view}
 
 abbrev pub codeAnswer : Answer → Answer
 codeAnswer a = record { number = a .number; controller = codeOf (a .controller) }

@@ -19,7 +19,8 @@ use Rattle.demands.specs.With.{withSession}
 use Rattle.demands.specs.Machine.{paperNext}
 use Rattle.demands.specs.Events.{Event, FrameReceived, TickMade, RecordWritten, RecordRead, accepts, readInto, after, isCharge}
 use Rattle.demands.specs.Unmoved.{isChargeMessage, others, Output, broadcastsAt, cellsAt, outputAt, outputs, Beside}
-use Rattle.demands.proofs.View.{sessionMoved, queriesMoved, View, Refused, Asks, Charges, view}
+use Rattle.demands.proofs.FrameTo.{sessionMoved, queriesMoved}
+use Rattle.demands.proofs.View.{View, Refused, Asks, Charges, view}
 use Rattle.demands.proofs.Comes.{Comes, Left, Took, came}
 
 -- ---- a charge message leaves all but the session: it is refused, or the session takes it

@@ -1,7 +1,7 @@
 -- What a frame comes to, told once, by the cases that every statement over frames goes by: one of the checks 3 to 8
 -- refuses it, or it is a query, or it is a charge message. The checks ask nothing of a controller but its own address,
 -- so controllers with the same address are in the same case, and each case tells what each of them answers. No other
--- file looks into the checks. Assumes nothing.
+-- file looks into the checks, but to run them on given frames (proofs/ReachRun.antt). Assumes nothing.
 use Prim.Native.Nat.{ℕ}
 use mathlib.Core.Path.{_≡_, refl, ap, subst, _∙_}
 use mathlib.Core.Bool.{Bool, true, false, cond, false≢true}
@@ -24,51 +24,14 @@ use Rattle.charge_messages.specs.Content.{contentOf}
 use Rattle.session.specs.declared.Session.{Session}
 use Rattle.session.specs.declared.Taken.{Taken}
 use Rattle.session.specs.Message.{messageOf}
-use Rattle.queries.specs.declared.Asked.{Asked}
 use Rattle.queries.specs.Asking.{askedOf}
 use Rattle.refusals.specs.Frame.{notCan, flagsSet, notForUs, badSource, maySpeak}
 use Rattle.controller.specs.declared.Controller.{Controller}
 use Rattle.controller.specs.declared.Answer.{Answer}
-use Rattle.controller.specs.Frame as core
-use Rattle.controller.specs.Frame.{refused, mayCharge, contentTaken, chargeTo, kindOf, queryTo, knownTo, frameTo}
-use Rattle.demands.specs.With.{withSession, withQueries}
+use Rattle.controller.specs.Frame.{refused, mayCharge, kindOf, frameTo}
 use Rattle.demands.specs.Checks.{longEnough, messageIn}
 use Rattle.demands.specs.Events.{chargeIn, queryIn, isCharge, isQuery}
-
--- ---- the core's answer to a frame, in one equation
--- the session moved on, and nothing else of the controller
-unfoldable pub sessionMoved : Controller → Taken → Answer
-sessionMoved c t = record { number = t .number; controller = withSession c (t .session) }
-
--- the queries moved on, and nothing else of the controller
-unfoldable pub queriesMoved : Controller → Asked → Answer
-queriesMoved c a = record { number = a .number; controller = withQueries c (a .queries) }
-
--- the message in a frame, or the number by which 3 to 8 refuse the frame
-unfoldable pub messageTo : Controller → ℕ → List ℕ → Recognized → Answer
-messageTo c source s (recognized.As (message.Charge k)) = chargeTo c source k s
-messageTo c source s (recognized.As (message.Query q)) = queryTo c source q
-messageTo c source s (recognized.Refused n) = refused n c
-
-module _ (c : Controller) (source : ℕ) (s : List ℕ) where
-  across : (t : Bool) {a : Answer} (r q : Recognized) → a ≡ messageTo c source s r
-      → {b : Answer} → b ≡ messageTo c source s q → cond t a b ≡ messageTo c source s (cond t r q)
-  across true r q h k = h
-  across false r q h k = k
-
-  known-view : (r : Recognized) → knownTo c source r s ≡ messageTo c source s (longEnough s r)
-  unfolding knownTo longEnough messageTo core.messageTo
-  known-view (recognized.As (message.Charge k)) = across (ltb (length s) (rowOf (message.Charge k) .2)) _ _ refl refl
-  known-view (recognized.As (message.Query q)) = across (ltb (length s) (rowOf (message.Query q) .2)) _ _ refl refl
-  known-view (recognized.Refused n) = refl
-
-frame-view : (c : Controller) (id : ℕ) (s : List ℕ) → frameTo c id s ≡ messageTo c (partsOf id .source) s (messageIn (c .settings .own) id s)
-unfolding frameTo messageIn messageTo
-frame-view c id s =
-    across c _ s (notCan id s) _ _ refl
-    (across c _ s (flagsSet (partsOf id)) _ _ refl
-    (across c _ s (notForUs (c .settings .own) (partsOf id)) _ _ refl
-    (across c _ s (badSource (c .settings .own) (partsOf id)) _ _ refl (known-view c _ s (recognizedOf (partsOf id .pf))))))
+use Rattle.demands.proofs.FrameTo.{sessionMoved, contentTaken, chargeTo, queriesMoved, queryTo, messageTo, frame-view}
 
 -- ---- a charge message, by settings and session alone: refused by 9 or 10, else taken or refused by 11
 unfoldable pub contentOn : Settings → ℕ → Session → Content → Taken
@@ -82,7 +45,7 @@ chargeOn x source k s t =
 
 charge-on : (c : Controller) (source : ℕ) (k : Charge) (s : List ℕ)
     → chargeTo c source k s ≡ sessionMoved c (chargeOn (c .settings) source k s (c .session))
-unfolding chargeTo mayCharge chargeOn contentTaken contentOn sessionMoved core.withSession
+unfolding chargeTo mayCharge chargeOn contentTaken contentOn sessionMoved
 charge-on c source k s = both (mayCharge c source) (contentOf k s)
   where
     both : (t : Bool) (m : Content)
@@ -148,7 +111,7 @@ module _ (own id : ℕ) (s : List ℕ) where
   each-charge k e c h = each (recognized.As (message.Charge k)) e c h ∙ charge-on c (partsOf id .source) k s
 
   in-case : (r : Recognized) → messageIn own id s ≡ r → View
-  unfolding messageTo queryTo queriesMoved core.withQueries isCharge isQuery chargeIn queryIn Fits
+  unfolding messageTo queryTo isCharge isQuery chargeIn queryIn Fits
   in-case (recognized.As (message.Charge k)) e = Charges k (ap chargeIn (pf-is (message.Charge k) e)) e (each-charge k e)
   in-case (recognized.As (message.Query q)) e =
       Asks q (ap queryIn (pf-is (message.Query q) e)) (each (recognized.As (message.Query q)) e)
