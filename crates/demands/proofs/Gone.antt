@@ -19,7 +19,6 @@ use Rattle.settings.specs.Read.{readOf}
 use Rattle.readings.specs.declared.Readings.{Readings}
 use Rattle.cells.specs.declared.Cells.{Cells}
 use Rattle.cells.specs.Summaries.{cellsOf}
-use Rattle.charge_messages.specs.declared.ChargeMessage.{ChargeMessage}
 use Rattle.states.specs.declared.Est.{Est}
 use Rattle.states.specs.declared.Est.the-variants.{Awaited, Fixed}
 use Rattle.states.specs.declared.State.{State}
@@ -32,7 +31,7 @@ use Rattle.session.specs.Message.{sessionAfter, appliedOf, messageOf}
 use Rattle.session.specs.Frames.{estBytes, stoppingFrames, framesIn, framesOf}
 use Rattle.session.specs.Tick.{turnedBy, turnIn, sentOf}
 use Rattle.literal.specs.Literal.{grown, counted, literalIn, literalAdvance, literalTick}
-use Rattle.outcomes.specs.Message.{outcomeOf}
+use Rattle.outcomes.specs.declared.Outcome.{Outcome}
 use Rattle.controller.specs.declared.Controller.{Controller}
 use Rattle.controller.specs.declared.Answer.{Answer}
 use Rattle.controller.specs.Start.{freshOf}
@@ -42,34 +41,35 @@ use Rattle.demands.specs.Machine.{Using, paperNext, seenOf, framesSeen}
 use Rattle.demands.specs.Events.{Event, FrameReceived, TickMade, RecordWritten, RecordRead, callOf, accepts, readInto, after, afterAll}
 use Rattle.demands.specs.Kinds.{isStopping}
 use Rattle.demands.specs.Gone.{holdsEst, sendsEst, goneAfter, estGone}
-use Rattle.demands.proofs.Tests.{and-false, or-left, or-right}
+use Rattle.demands.proofs.Tests.{or-left, or-right}
 use Rattle.demands.proofs.FrameTo.{sessionMoved}
 use Rattle.demands.proofs.Comes.{Comes, Left, Took, came}
-use Rattle.demands.proofs.Messages.{mk, enters-anew, stays-stopping}
+use Rattle.demands.proofs.Outcomes.{Leads, NotTaken, NotInStep, DoesNothing, OpensOne, ToUnverified, ToParameters, ToParametersLater, ToReady, ToReadyAgain, ToCharging, ToStopping, MarksIt, EndsIt, outcome-leads}
+use Rattle.demands.proofs.Messages.{mk}
 
 -- in Stopping, the count tells whether one has gone out
 abbrev Agrees : Bool → Session → Type 0
 Agrees gone s = isStopping (s .state) ≡ true → ltb 0 (s .count) ≡ gone
 
 -- ---- a message
-module _ (x : Settings) (source a b n : ℕ) (m : ChargeMessage) where
-  abbrev next : State → Session
-  next st = sessionAfter source (mk a b n st) (outcomeOf x st n m)
-
-  anew : (st : State) → isStopping st ≡ false → isStopping (next st .state) ≡ true → ltb 0 (next st .count) ≡ false
-  anew st f h = and-false (isStopping (next st .state)) (ltb 0 (next st .count)) h (enters-anew x source a b n st m f)
-
-  -- after a message the count of Stopping is above 0 only if it was before
-  stopping-next : (st : State) → isStopping (next st .state) ≡ true → ltb 0 (next st .count) ≡ (isStopping st && ltb 0 n)
-  unfolding isStopping
-  stopping-next Idle h = anew Idle refl h
-  stopping-next Offered h = anew Offered refl h
-  stopping-next Unverified h = anew Unverified refl h
-  stopping-next Parameters h = anew Parameters refl h
-  stopping-next (Ready y most) h = anew (Ready y most) refl h
-  stopping-next (Charging p) h = anew (Charging p) refl h
-  stopping-next (Stopping k e) h = ap (ltb 0) (stays-stopping x source a b n k e m h)
-  stopping-next Error h = anew Error refl h
+-- after it the count of Stopping is above 0 only if it was before
+module _ (x : Settings) (source a b n : ℕ) where
+  stopping-next : (st : State) (o : Outcome) → Leads x n st o → isStopping (sessionAfter source (mk a b n st) o .state) ≡ true
+      → ltb 0 (sessionAfter source (mk a b n st) o .count) ≡ (isStopping st && ltb 0 n)
+  unfolding isStopping sessionAfter
+  stopping-next st o NotTaken h = rw h
+  stopping-next st o NotInStep h = rw h
+  stopping-next st o DoesNothing h = rw h
+  stopping-next st o OpensOne h = absurd (false≢true h)
+  stopping-next st o (ToUnverified g) h = absurd (false≢true h)
+  stopping-next st o (ToParameters g) h = absurd (false≢true h)
+  stopping-next st o ToParametersLater h = absurd (false≢true h)
+  stopping-next st o (ToReady g) h = absurd (false≢true h)
+  stopping-next st o ToReadyAgain h = absurd (false≢true h)
+  stopping-next st o (ToCharging g) h = absurd (false≢true h)
+  stopping-next st o (ToStopping f) h = rw f
+  stopping-next st o MarksIt h = refl
+  stopping-next st o EndsIt h = absurd (false≢true h)
 
 -- what goes on without a frame of ours
 goes-on : (gone g st n : Bool) → (st ≡ true → n ≡ gone) → g ≡ (st && n) → g ≡ (true && ((st && gone) || false))
@@ -107,7 +107,8 @@ module _ (gone : Bool) (c : Controller) (h : Agrees gone (c .session)) where
   frame-agrees id l a (Took m says may k) =
       on-without (a .controller .session)
       (λ p. ap (λ (z : Answer). ltb 0 (z .controller .session .count)) k
-      ∙ stopping-next (c .settings) (partsOf id .source) (c .session .station) (c .session .silence) (c .session .count) m (c .session .state)
+      ∙ stopping-next (c .settings) (partsOf id .source) (c .session .station) (c .session .silence) (c .session .count) (c .session .state) _
+      (outcome-leads (c .settings) (c .session .count) (c .session .state) m)
       (ap (λ (z : Answer). isStopping (z .controller .session .state)) (sym k) ∙ p))
 
 -- ---- a tick

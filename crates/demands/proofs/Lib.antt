@@ -6,6 +6,7 @@ pub mod WorkedRows
 pub mod FrameTo
 pub mod View
 pub mod Comes
+pub mod Outcomes
 pub mod Messages
 pub mod Gone
 pub mod Ends

@@ -7,12 +7,10 @@ use lib.Dec.{ltb}
 use Rattle.settings.specs.declared.Settings.{Settings}
 use Rattle.charge_messages.specs.declared.ChargeMessage.{ChargeMessage}
 use Rattle.charge_messages.specs.declared.ChargeMessage.the-variants.{Cim, Cvm, Cmp, Crm, Ccs, Cst, Cem}
-use Rattle.states.specs.declared.Est.{Est}
 use Rattle.states.specs.declared.State.{State}
 use Rattle.states.specs.declared.State.the-variants.{Idle, Offered, Unverified, Parameters, Ready, Charging, Stopping, Error}
 use Rattle.outcomes.specs.declared.Outcome.{Outcome}
-use Rattle.outcomes.specs.declared.Outcome.the-variants.{Refuse, Keep, End}
-use Rattle.outcomes.specs.Message.{outcomeOf, inIdle, inOffered, inUnverified, inParameters, inReady, readyOf, crmOf, inCharging, inStopping, inError}
+use Rattle.outcomes.specs.Message.{outcomeOf, inOffered, inUnverified, inParameters, inReady, readyOf, crmOf, inCharging, inStopping, inError}
 use Rattle.session.specs.declared.Session.{Session}
 use Rattle.session.specs.Message.{sessionAfter}
 use Rattle.refusals.specs.Frame.{isIdle}
@@ -117,84 +115,3 @@ module _ (x : Settings) (source a b n : ℕ) where
   leaves-message (Charging p) Cem h = refl
   leaves-message (Stopping k e) m h = absurd (false≢true h)
   leaves-message Error m h = absurd (false≢true h)
-
-  -- in Stopping with a count above 0 only if it was so before
-  abbrev pub agedAfter : State → Outcome → Bool
-  agedAfter st o = isStopping (sessionAfter source (mk a b n st) o .state) && ltb 0 (sessionAfter source (mk a b n st) o .count)
-
-  pub enters-anew : (st : State) (m : ChargeMessage) → isStopping st ≡ false → agedAfter st (outcomeOf x st n m) ≡ false
-  unfolding isStopping sessionAfter outcomeOf inIdle inOffered inUnverified inParameters inReady readyOf crmOf inCharging inError
-  enters-anew Idle Cim h = refl
-  enters-anew Idle (Cvm v) h = refl
-  enters-anew Idle (Cmp o) h = refl
-  enters-anew Idle (Crm v) h = refl
-  enters-anew Idle (Ccs v) h = refl
-  enters-anew Idle (Cst v) h = refl
-  enters-anew Idle Cem h = refl
-  enters-anew Offered Cim h = refl
-  enters-anew Offered (Cvm v) h = same (agedAfter Offered) (ltb 0 n) (same (agedAfter Offered) v refl refl) refl
-  enters-anew Offered (Cmp o) h = refl
-  enters-anew Offered (Crm v) h = refl
-  enters-anew Offered (Ccs v) h = refl
-  enters-anew Offered (Cst v) h = refl
-  enters-anew Offered Cem h = refl
-  enters-anew Unverified Cim h = refl
-  enters-anew Unverified (Cvm v) h = same (agedAfter Unverified) v refl refl
-  enters-anew Unverified (Cmp o) h = refl
-  enters-anew Unverified (Crm v) h = refl
-  enters-anew Unverified (Ccs v) h = refl
-  enters-anew Unverified (Cst v) h = refl
-  enters-anew Unverified Cem h = refl
-  enters-anew Parameters Cim h = refl
-  enters-anew Parameters (Cvm v) h = same (agedAfter Parameters) v refl refl
-  enters-anew Parameters (Cmp o) h = same (agedAfter Parameters) (ltb firstEcp n) refl refl
-  enters-anew Parameters (Crm v) h = refl
-  enters-anew Parameters (Ccs v) h = refl
-  enters-anew Parameters (Cst v) h = refl
-  enters-anew Parameters Cem h = refl
-  enters-anew (Ready y most) Cim h = refl
-  enters-anew (Ready y most) (Cvm v) h = refl
-  enters-anew (Ready y most) (Cmp o) h = refl
-  enters-anew (Ready y most) (Crm v) h = same (agedAfter (Ready y most)) (y && ltb 0 n) (same (agedAfter (Ready y most)) v refl refl) refl
-  enters-anew (Ready y most) (Ccs v) h = refl
-  enters-anew (Ready y most) (Cst v) h = refl
-  enters-anew (Ready y most) Cem h = refl
-  enters-anew (Charging p) Cim h = refl
-  enters-anew (Charging p) (Cvm v) h = refl
-  enters-anew (Charging p) (Cmp o) h = refl
-  enters-anew (Charging p) (Crm v) h = refl
-  enters-anew (Charging p) (Ccs v) h = same (agedAfter (Charging p)) v refl refl
-  enters-anew (Charging p) (Cst v) h = refl
-  enters-anew (Charging p) Cem h = refl
-  enters-anew Error Cim h = refl
-  enters-anew Error (Cvm v) h = refl
-  enters-anew Error (Cmp o) h = refl
-  enters-anew Error (Crm v) h = refl
-  enters-anew Error (Ccs v) h = refl
-  enters-anew Error (Cst v) h = refl
-  enters-anew Error Cem h = refl
-  enters-anew (Stopping k e) m h = absurd (false≢true (sym h))
-
-  -- and a message that leaves Stopping open leaves its count
-  abbrev pub countAfter : State → Outcome → ℕ
-  countAfter st o = sessionAfter source (mk a b n st) o .count
-
-  cst-count : (k : Bool) (e : Est) (v g : Bool)
-      → isStopping (sessionAfter source (mk a b n (Stopping k e)) (cond v (cond g End Refuse) (Keep (Stopping true e))) .state) ≡ true
-      → countAfter (Stopping k e) (cond v (cond g End Refuse) (Keep (Stopping true e))) ≡ n
-  unfolding isStopping sessionAfter
-  cst-count k e true true h = absurd (false≢true h)
-  cst-count k e true false h = refl
-  cst-count k e false g h = refl
-
-  pub stays-stopping : (k : Bool) (e : Est) (m : ChargeMessage)
-      → isStopping (sessionAfter source (mk a b n (Stopping k e)) (outcomeOf x (Stopping k e) n m) .state) ≡ true
-      → countAfter (Stopping k e) (outcomeOf x (Stopping k e) n m) ≡ n
-  unfolding isStopping sessionAfter outcomeOf inStopping
-  stays-stopping k e Cim h = refl
-  stays-stopping k e (Cvm v) h = refl
-  stays-stopping k e (Cmp o) h = refl
-  stays-stopping k e (Crm v) h = refl
-  stays-stopping k e (Ccs v) h = refl
-  stays-stopping k e (Cst v) h = cst-count k e v (ltb 0 n) h
-  stays-stopping k e Cem h = absurd (false≢true h)

@@ -6,12 +6,11 @@
 use Prim.Native.Nat.{ℕ, _+_, _≤_}
 use native.Mathlib.Omega.{arith}
 use mathlib.Core.Path.{_≡_, refl, ap, _∙_}
-use mathlib.Core.Bool.{Bool, true, false, cond, _&&_, false≢true}
+use mathlib.Core.Bool.{Bool, true, false, cond, false≢true}
 use mathlib.Core.List.{List, [], _∷_}
-use lib.Dec.{leb, ltb}
+use lib.Dec.{leb}
 use lib.IntN.{ℤ}
 use borrow.Author.Tests.{ltb-true}
-use Rattle.buffers.proofs.Tests.{and-right}
 use Rattle.messages.specs.Identifier.{partsOf}
 use Rattle.settings.specs.declared.Settings.{Settings}
 use Rattle.settings.specs.declared.SettingsRead.{SettingsRead}
@@ -23,19 +22,16 @@ use Rattle.readings.specs.Readings.{wantedOf, aboveOf}
 use Rattle.cells.specs.declared.Cells.{Cells}
 use Rattle.cells.specs.Summaries.{cellsOf}
 use Rattle.charge_messages.specs.declared.ChargeMessage.{ChargeMessage}
-use Rattle.charge_messages.specs.declared.ChargeMessage.the-variants.{Cim, Cvm, Cmp, Crm, Ccs, Cst, Cem}
-use Rattle.phases.specs.declared.Phase.{Phase}
 use Rattle.phases.specs.declared.Cause.{Cause}
 use Rattle.phases.specs.declared.Cause.the-variants.{PackVoltage, Other}
 use Rattle.phases.specs.declared.Turned.{Turned}
 use Rattle.phases.specs.declared.Turned.the-variants as turned
 use Rattle.phases.specs.Phases.{turnedOf}
-use Rattle.states.specs.declared.Est.{Est}
 use Rattle.states.specs.declared.State.{State}
 use Rattle.states.specs.declared.State.the-variants.{Idle, Offered, Unverified, Parameters, Ready, Charging, Stopping, Error}
 use Rattle.outcomes.specs.declared.Outcome.{Outcome}
-use Rattle.outcomes.specs.declared.Outcome.the-variants.{Refuse, OutOfStep, Heard, Enter, Keep, End}
-use Rattle.outcomes.specs.Message.{outcomeOf, inIdle, inOffered, inUnverified, inParameters, inReady, readyOf, crmOf, inCharging, inStopping, inError}
+use Rattle.outcomes.specs.declared.Outcome.the-variants.{Enter, End}
+use Rattle.outcomes.specs.Message.{outcomeOf}
 use Rattle.turns.specs.declared.Turn.{Turn}
 use Rattle.turns.specs.declared.Turn.the-variants as turn
 use Rattle.turns.specs.Turns.{stopOf, estThen, waitingOf, phaseOn, phaseTurn, stopsOf, chargingOf, stoppingOf, errorOf, turnOf, cellFull, packFull}
@@ -53,6 +49,7 @@ use Rattle.demands.specs.Kinds.{isCharging}
 use Rattle.demands.specs.Silent.{isAcceptedTick, ticksIn}
 use Rattle.demands.proofs.FrameTo.{sessionMoved}
 use Rattle.demands.proofs.Comes.{Comes, Left, Took, came}
+use Rattle.demands.proofs.Outcomes.{Leads, NotTaken, NotInStep, DoesNothing, OpensOne, ToUnverified, ToParameters, ToParametersLater, ToReady, ToReadyAgain, ToCharging, ToStopping, MarksIt, EndsIt, outcome-leads}
 use Rattle.demands.proofs.Messages.{mk}
 
 -- the accepted ticks since Idle that a state with this count needs, at the least
@@ -75,141 +72,26 @@ module _ (x : Settings) (source a b n : ℕ) where
   abbrev NoMore : State → Outcome → Type 0
   NoMore st o = needed (sessionAfter source (mk a b n st) o) ≤ needs st n
 
-  pick : (st : State) (t : Bool) (o p : Outcome) → (t ≡ true → NoMore st o) → NoMore st p → NoMore st (cond t o p)
-  pick st true o p h k = h refl
-  pick st false o p h k = k
-
-  refuses : (st : State) → NoMore st Refuse
-  unfolding needed sessionAfter
-  refuses st = omega arith
-
-  out-of-step : (st : State) → NoMore st OutOfStep
-  unfolding needed sessionAfter
-  out-of-step st = omega arith
-
-  is-heard : (st : State) → NoMore st Heard
-  unfolding needed sessionAfter
-  is-heard st = omega arith
-
-  ends : (st : State) → NoMore st End
+  -- CVM is taken once an EIM AA has gone out, after one tick at the least; CMP once an ECP has, after six ticks of
+  -- Parameters; CRM once an ERM AA has since the last CMP, after one
+  outcome-needs : (st : State) (o : Outcome) → Leads x n st o → NoMore st o
   unfolding needed needs sessionAfter
-  ends st = omega arith
-
-  -- CST 00 marks Stopping acknowledged
-  marks : (k : Bool) (e : Est) → NoMore (Stopping k e) (Keep (Stopping true e))
-  unfolding needed needs sessionAfter
-  marks k e = omega arith
-
-  enters : (st to : State) → needs to 0 ≤ needs st n → NoMore st (Enter to)
-  unfolding needed sessionAfter
-  enters st to h = h
-
-  -- ---- state by state
-  -- CIM opens Offered, which needs nothing yet
-  idle-needs : (m : ChargeMessage) → NoMore Idle (inIdle m)
-  unfolding inIdle needed needs sessionAfter
-  idle-needs Cim = omega arith
-  idle-needs (Cvm v) = refuses Idle
-  idle-needs (Cmp o) = refuses Idle
-  idle-needs (Crm v) = refuses Idle
-  idle-needs (Ccs v) = refuses Idle
-  idle-needs (Cst v) = refuses Idle
-  idle-needs Cem = refuses Idle
-
-  -- CVM is taken once an EIM AA has gone out: after one tick at the least
-  offered-needs : (m : ChargeMessage) → NoMore Offered (inOffered n m)
-  unfolding inOffered needs
-  offered-needs Cim = is-heard Offered
-  offered-needs (Cvm v) =
-      pick Offered (ltb 0 n) _ _
-      (λ e. pick Offered v _ _ (λ f. enters Offered Parameters (omega (arith, ltb-true 0 n e)))
-      (enters Offered Unverified (omega (arith, ltb-true 0 n e))))
-      (out-of-step Offered)
-  offered-needs (Cmp o) = out-of-step Offered
-  offered-needs (Crm v) = out-of-step Offered
-  offered-needs (Ccs v) = out-of-step Offered
-  offered-needs (Cst v) = enters Offered _ (omega arith)
-  offered-needs Cem = ends Offered
-
-  unverified-needs : (m : ChargeMessage) → NoMore Unverified (inUnverified m)
-  unfolding inUnverified needs
-  unverified-needs Cim = refuses Unverified
-  unverified-needs (Cvm v) = pick Unverified v _ _ (λ e. enters Unverified Parameters (omega arith)) (is-heard Unverified)
-  unverified-needs (Cmp o) = out-of-step Unverified
-  unverified-needs (Crm v) = out-of-step Unverified
-  unverified-needs (Ccs v) = out-of-step Unverified
-  unverified-needs (Cst v) = enters Unverified _ (omega arith)
-  unverified-needs Cem = ends Unverified
-
-  -- CMP is taken once an ECP has gone out: after six ticks of Parameters at the least
-  parameters-needs : (m : ChargeMessage) → NoMore Parameters (inParameters x n m)
-  unfolding inParameters readyOf needs
-  parameters-needs Cim = refuses Parameters
-  parameters-needs (Cvm v) = pick Parameters v _ _ (λ e. is-heard Parameters) (out-of-step Parameters)
-  parameters-needs (Cmp o) =
-      pick Parameters (ltb firstEcp n) _ _ (λ e. enters Parameters _ (omega (arith, ltb-true firstEcp n e))) (out-of-step Parameters)
-  parameters-needs (Crm v) = out-of-step Parameters
-  parameters-needs (Ccs v) = out-of-step Parameters
-  parameters-needs (Cst v) = enters Parameters _ (omega arith)
-  parameters-needs Cem = ends Parameters
-
-  -- CRM is taken if an ERM AA has gone out since the last CMP: after one tick at the least
-  ready-needs : (y : Bool) (most : ℕ) (m : ChargeMessage) → NoMore (Ready y most) (inReady x y most n m)
-  unfolding inReady readyOf crmOf needs
-  ready-needs y most Cim = refuses (Ready y most)
-  ready-needs y most (Cvm v) = out-of-step (Ready y most)
-  ready-needs y most (Cmp o) = enters (Ready y most) _ (omega arith)
-  ready-needs y most (Crm v) =
-      pick (Ready y most) (y && ltb 0 n) _ _
-      (λ e. pick (Ready y most) v _ _ (λ f. enters (Ready y most) _ (omega (arith, ltb-true 0 n (and-right y (ltb 0 n) e))))
-      (is-heard (Ready y most)))
-      (out-of-step (Ready y most))
-  ready-needs y most (Ccs v) = out-of-step (Ready y most)
-  ready-needs y most (Cst v) = enters (Ready y most) _ (omega arith)
-  ready-needs y most Cem = ends (Ready y most)
-
-  charging-needs : (p : Phase) (m : ChargeMessage) → NoMore (Charging p) (inCharging m)
-  unfolding inCharging needs
-  charging-needs p Cim = refuses (Charging p)
-  charging-needs p (Cvm v) = refuses (Charging p)
-  charging-needs p (Cmp o) = refuses (Charging p)
-  charging-needs p (Crm v) = refuses (Charging p)
-  charging-needs p (Ccs v) = pick (Charging p) v _ _ (λ e. is-heard (Charging p)) (enters (Charging p) _ (omega arith))
-  charging-needs p (Cst v) = enters (Charging p) _ (omega arith)
-  charging-needs p Cem = ends (Charging p)
-
-  stopping-needs : (k : Bool) (e : Est) (m : ChargeMessage) → NoMore (Stopping k e) (inStopping e n m)
-  unfolding inStopping
-  stopping-needs k e Cim = refuses (Stopping k e)
-  stopping-needs k e (Cvm v) = refuses (Stopping k e)
-  stopping-needs k e (Cmp o) = refuses (Stopping k e)
-  stopping-needs k e (Crm v) = refuses (Stopping k e)
-  stopping-needs k e (Ccs v) = refuses (Stopping k e)
-  stopping-needs k e (Cst v) =
-      pick (Stopping k e) v _ _ (λ f. pick (Stopping k e) (ltb 0 n) _ _ (λ g. ends (Stopping k e)) (refuses (Stopping k e)))
-      (marks k e)
-  stopping-needs k e Cem = ends (Stopping k e)
-
-  error-needs : (m : ChargeMessage) → NoMore Error (inError m)
-  unfolding inError
-  error-needs Cim = refuses Error
-  error-needs (Cvm v) = refuses Error
-  error-needs (Cmp o) = refuses Error
-  error-needs (Crm v) = refuses Error
-  error-needs (Ccs v) = refuses Error
-  error-needs (Cst v) = refuses Error
-  error-needs Cem = ends Error
+  outcome-needs st o NotTaken = omega arith
+  outcome-needs st o NotInStep = omega arith
+  outcome-needs st o DoesNothing = omega arith
+  outcome-needs st o OpensOne = omega arith
+  outcome-needs st o (ToUnverified g) = omega (arith, ltb-true 0 n g)
+  outcome-needs st o (ToParameters g) = omega (arith, ltb-true 0 n g)
+  outcome-needs st o ToParametersLater = omega arith
+  outcome-needs st o (ToReady g) = omega (arith, ltb-true firstEcp n g)
+  outcome-needs st o ToReadyAgain = omega arith
+  outcome-needs st o (ToCharging g) = omega (arith, ltb-true 0 n g)
+  outcome-needs st o (ToStopping f) = omega arith
+  outcome-needs st o MarksIt = omega arith
+  outcome-needs st o EndsIt = omega arith
 
   message-needs : (st : State) (m : ChargeMessage) → NoMore st (outcomeOf x st n m)
-  unfolding outcomeOf
-  message-needs Idle m = idle-needs m
-  message-needs Offered m = offered-needs m
-  message-needs Unverified m = unverified-needs m
-  message-needs Parameters m = parameters-needs m
-  message-needs (Ready y most) m = ready-needs y most m
-  message-needs (Charging p) m = charging-needs p m
-  message-needs (Stopping k e) m = stopping-needs k e m
-  message-needs Error m = error-needs m
+  message-needs st m = outcome-needs st (outcomeOf x st n m) (outcome-leads x n st m)
 
 -- a frame, whoever sends it
 frame-needs : (c : Controller) (id : ℕ) (s : List ℕ) (a : Answer) → Comes c id s a → needed (a .controller .session) ≤ needed (c .session)

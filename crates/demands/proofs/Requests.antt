@@ -4,7 +4,7 @@
 use Prim.Native.Nat.{ℕ, _/_, _≤_}
 use native.Mathlib.Omega.{arith}
 use mathlib.Core.Path.{_≡_, refl, sym, ap, subst, _∙_}
-use mathlib.Core.Bool.{Bool, true, false, cond, _&&_}
+use mathlib.Core.Bool.{Bool, true, false, cond}
 use mathlib.Core.List.{List, [], _∷_}
 use lib.Dec.{leb, ltb}
 use lib.IntN.{ℤ}
@@ -18,8 +18,6 @@ use Rattle.readings.specs.declared.Readings.{Readings}
 use Rattle.readings.specs.Readings.{wantedOf, aboveOf}
 use Rattle.cells.specs.declared.Cells.{Cells}
 use Rattle.cells.specs.Summaries.{cellsOf}
-use Rattle.charge_messages.specs.declared.ChargeMessage.{ChargeMessage}
-use Rattle.charge_messages.specs.declared.ChargeMessage.the-variants.{Cim, Cvm, Cmp, Crm, Ccs, Cst, Cem}
 use Rattle.phases.specs.declared.Phase.{Phase}
 use Rattle.phases.specs.declared.Phase.the-variants.{Drive, Rest, Hold}
 use Rattle.phases.specs.declared.Turned.{Turned}
@@ -29,7 +27,7 @@ use Rattle.states.specs.declared.State.{State}
 use Rattle.states.specs.declared.State.the-variants.{Idle, Offered, Unverified, Parameters, Ready, Charging, Stopping, Error}
 use Rattle.outcomes.specs.declared.Outcome.{Outcome}
 use Rattle.outcomes.specs.declared.Outcome.the-variants as outcome
-use Rattle.outcomes.specs.Message.{outcomeOf, inIdle, inOffered, inUnverified, inParameters, inReady, readyOf, crmOf, inCharging, inStopping, inError}
+use Rattle.outcomes.specs.Message.{outcomeOf}
 use Rattle.turns.specs.declared.Turn.{Turn}
 use Rattle.turns.specs.declared.Turn.the-variants as turn
 use Rattle.turns.specs.Turns.{cellFull, packFull, stopOf, waitingOf, phaseOn, phaseTurn, stopsOf, chargingOf, stoppingOf, errorOf, turnOf}
@@ -41,11 +39,12 @@ use Rattle.controller.specs.declared.Controller.{Controller}
 use Rattle.controller.specs.declared.Answer.{Answer}
 use Rattle.controller.specs.Start.{freshOf}
 use Rattle.controller.specs.Frame.{frameTo}
-use Rattle.demands.specs.Limits.{silenceLimit, closingLimit, firstEcp, driveLimit, restLimit, holdLimit, leastRequest, mostDrives}
+use Rattle.demands.specs.Limits.{silenceLimit, closingLimit, driveLimit, restLimit, holdLimit, leastRequest, mostDrives}
 use Rattle.demands.specs.Machine.{paperNext}
 use Rattle.demands.specs.Events.{Event, FrameReceived, TickMade, RecordWritten, RecordRead, accepts, readInto, after, afterAll}
 use Rattle.demands.specs.Requests.{requestOf, requestIn}
 use Rattle.demands.proofs.FrameTo.{sessionMoved}
+use Rattle.demands.proofs.Outcomes.{Leads, NotTaken, NotInStep, DoesNothing, OpensOne, ToUnverified, ToParameters, ToParametersLater, ToReady, ToReadyAgain, ToCharging, ToStopping, MarksIt, EndsIt, outcome-leads}
 use Rattle.demands.proofs.Comes.{Comes, Left, Took, came}
 
 -- ---- the start
@@ -81,68 +80,22 @@ module _ (x : Settings) (n : ℕ) where
   asksBy (outcome.Keep st) = requestIn st
   asksBy outcome.End = 0
 
-  either : (t : Bool) (a b : Outcome) → asksBy a ≤ x .current → asksBy b ≤ x .current → asksBy (cond t a b) ≤ x .current
-  either true a b h k = h
-  either false a b h k = k
-
-  outcome-asks : (st : State) (m : ChargeMessage) → asksBy (outcomeOf x st n m) ≤ x .current
-  unfolding asksBy requestIn requestOf outcomeOf inIdle inOffered inUnverified inParameters inReady readyOf crmOf inCharging inStopping inError
-  outcome-asks Idle Cim = omega arith
-  outcome-asks Idle (Cvm v) = omega arith
-  outcome-asks Idle (Cmp o) = omega arith
-  outcome-asks Idle (Crm v) = omega arith
-  outcome-asks Idle (Ccs v) = omega arith
-  outcome-asks Idle (Cst v) = omega arith
-  outcome-asks Idle Cem = omega arith
-  outcome-asks Offered Cim = omega arith
-  outcome-asks Offered (Cvm v) = either (ltb 0 n) _ _ (either v _ _ (omega arith) (omega arith)) (omega arith)
-  outcome-asks Offered (Cmp o) = omega arith
-  outcome-asks Offered (Crm v) = omega arith
-  outcome-asks Offered (Ccs v) = omega arith
-  outcome-asks Offered (Cst v) = omega arith
-  outcome-asks Offered Cem = omega arith
-  outcome-asks Unverified Cim = omega arith
-  outcome-asks Unverified (Cvm v) = either v _ _ (omega arith) (omega arith)
-  outcome-asks Unverified (Cmp o) = omega arith
-  outcome-asks Unverified (Crm v) = omega arith
-  outcome-asks Unverified (Ccs v) = omega arith
-  outcome-asks Unverified (Cst v) = omega arith
-  outcome-asks Unverified Cem = omega arith
-  outcome-asks Parameters Cim = omega arith
-  outcome-asks Parameters (Cvm v) = either v _ _ (omega arith) (omega arith)
-  outcome-asks Parameters (Cmp o) = either (ltb firstEcp n) _ _ (omega arith) (omega arith)
-  outcome-asks Parameters (Crm v) = omega arith
-  outcome-asks Parameters (Ccs v) = omega arith
-  outcome-asks Parameters (Cst v) = omega arith
-  outcome-asks Parameters Cem = omega arith
-  outcome-asks (Ready y most) Cim = omega arith
-  outcome-asks (Ready y most) (Cvm v) = omega arith
-  outcome-asks (Ready y most) (Cmp o) = omega arith
-  outcome-asks (Ready y most) (Crm v) = either (y && ltb 0 n) _ _ (either v _ _ (start-asks (x .current) most) (omega arith)) (omega arith)
-  outcome-asks (Ready y most) (Ccs v) = omega arith
-  outcome-asks (Ready y most) (Cst v) = omega arith
-  outcome-asks (Ready y most) Cem = omega arith
-  outcome-asks (Charging p) Cim = omega arith
-  outcome-asks (Charging p) (Cvm v) = omega arith
-  outcome-asks (Charging p) (Cmp o) = omega arith
-  outcome-asks (Charging p) (Crm v) = omega arith
-  outcome-asks (Charging p) (Ccs v) = either v _ _ (omega arith) (omega arith)
-  outcome-asks (Charging p) (Cst v) = omega arith
-  outcome-asks (Charging p) Cem = omega arith
-  outcome-asks (Stopping k e) Cim = omega arith
-  outcome-asks (Stopping k e) (Cvm v) = omega arith
-  outcome-asks (Stopping k e) (Cmp o) = omega arith
-  outcome-asks (Stopping k e) (Crm v) = omega arith
-  outcome-asks (Stopping k e) (Ccs v) = omega arith
-  outcome-asks (Stopping k e) (Cst v) = either v _ _ (either (ltb 0 n) _ _ (omega arith) (omega arith)) (omega arith)
-  outcome-asks (Stopping k e) Cem = omega arith
-  outcome-asks Error Cim = omega arith
-  outcome-asks Error (Cvm v) = omega arith
-  outcome-asks Error (Cmp o) = omega arith
-  outcome-asks Error (Crm v) = omega arith
-  outcome-asks Error (Ccs v) = omega arith
-  outcome-asks Error (Cst v) = omega arith
-  outcome-asks Error Cem = omega arith
+  -- only Charging asks for current
+  outcome-asks : (st : State) (o : Outcome) → Leads x n st o → asksBy o ≤ x .current
+  unfolding asksBy requestIn
+  outcome-asks st o NotTaken = omega arith
+  outcome-asks st o NotInStep = omega arith
+  outcome-asks st o DoesNothing = omega arith
+  outcome-asks st o OpensOne = omega arith
+  outcome-asks st o (ToUnverified g) = omega arith
+  outcome-asks st o (ToParameters g) = omega arith
+  outcome-asks st o ToParametersLater = omega arith
+  outcome-asks st o (ToReady g) = omega arith
+  outcome-asks st o ToReadyAgain = omega arith
+  outcome-asks st o (ToCharging {most = most} g) = start-asks (x .current) most
+  outcome-asks st o (ToStopping f) = omega arith
+  outcome-asks st o MarksIt = omega arith
+  outcome-asks st o EndsIt = omega arith
 
   after-asks : (source : ℕ) (s : Session) (o : Outcome) → requestIn (s .state) ≤ x .current → asksBy o ≤ x .current
       → requestIn (sessionAfter source s o .state) ≤ x .current
@@ -268,7 +221,7 @@ frame-within c id s a (Left k e n) h =
 frame-within c id s a (Took m says may e) h =
     subst (λ (z : Answer). Within (z .controller)) (sym e)
     (after-asks (c .settings) (c .session .count) (partsOf id .source) (c .session) (outcomeOf (c .settings) (c .session .state) (c .session .count) m) h
-    (outcome-asks (c .settings) (c .session .count) (c .session .state) m))
+    (outcome-asks (c .settings) (c .session .count) (c .session .state) _ (outcome-leads (c .settings) (c .session .count) (c .session .state) m)))
 
 read-within : (a : SettingsRead) (c : Controller) → Within c → Within (readInto a c)
 unfolding readInto freshOf requestIn
