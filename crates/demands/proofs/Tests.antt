@@ -1,10 +1,6 @@
 -- Laws of tests joined by `_&&_`, `_||_` and `cond`. Assumes nothing.
 use mathlib.Core.Path.{_≡_, refl, sym}
-use mathlib.Core.Bool.{Bool, true, false, cond, _&&_, _||_, false≢true}
-
-pub and-false : (a b : Bool) → a ≡ true → (a && b) ≡ false → b ≡ false
-and-false true b h e = e
-and-false false b h e = absurd (false≢true h)
+use mathlib.Core.Bool.{Bool, true, false, cond, _||_, false≢true}
 
 pub or-left : (a b : Bool) → a ≡ true → (a || b) ≡ true
 or-left a b h = rw h
