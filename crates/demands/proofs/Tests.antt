@@ -1,4 +1,4 @@
--- Laws of tests joined by `_&&_`, `_||_` and `cond`. Assumes nothing.
+-- Laws of tests joined by `_||_` and `cond`. Assumes nothing.
 use mathlib.Core.Path.{_≡_, refl, sym}
 use mathlib.Core.Bool.{Bool, true, false, cond, _||_, false≢true}
 
