@@ -1,149 +1,71 @@
--- Demand 3, first half: whatever other addresses send, an open session goes as it would without them, up to its end. Assumes nothing.
+-- Demand 3, first half: whatever other addresses send, an open session goes as it would without them, up to its end.
+-- Assumes nothing.
 use Prim.Native.Nat.{ℕ}
 use mathlib.Core.Path.{_≡_, refl, ap, sym, subst, _∙_}
 use mathlib.Core.Bool.{Bool, true, false, not, cond, _&&_, false≢true}
 use mathlib.Core.List.{List, [], _∷_, _++_}
-use lib.Dec.{eqb, ltb}
+use lib.Dec.{eqb}
 use lib.IntN.{ℤ}
-use lib.ListN.{length}
-use borrow.Author.Tests.{eqb-true}
-use Rattle.messages.specs.declared.received.Query.{Query}
+use borrow.Author.Tests.{eq-eqb}
 use Rattle.messages.specs.declared.received.Message.the-variants as message
-use Rattle.messages.specs.declared.received.Recognized.{Recognized}
-use Rattle.messages.specs.declared.received.Recognized.the-variants as recognized
 use Rattle.messages.specs.Identifier.{partsOf}
-use Rattle.messages.specs.Received.{recognizedOf, rowOf}
 use Rattle.settings.specs.declared.Settings.{Settings}
 use Rattle.settings.specs.declared.SettingsRead.{SettingsRead}
 use Rattle.settings.specs.declared.SettingsRead.the-variants as read
 use Rattle.settings.specs.Read.{readOf}
 use Rattle.readings.specs.declared.Readings.{Readings}
 use Rattle.cells.specs.declared.Cells.{Cells}
-use Rattle.charge_messages.specs.declared.Content.{Content}
-use Rattle.charge_messages.specs.declared.Content.the-variants as content
-use Rattle.charge_messages.specs.Content.{contentOf}
-use Rattle.session_states.specs.declared.states.State.{State}
-use Rattle.session_states.specs.declared.states.State.the-variants.{Idle, Offered, Unverified, Parameters, Ready, Charging, Stopping, Error}
-use Rattle.session_by_message.specs.declared.Outcome.{Outcome}
-use Rattle.session_by_message.specs.declared.Outcome.the-variants as outcome
-use Rattle.session_by_tick.specs.declared.Turn.{Turn}
-use Rattle.session_by_tick.specs.declared.Turn.the-variants as turn
+use Rattle.charge_messages.specs.declared.ChargeMessage.{ChargeMessage}
+use Rattle.states.specs.declared.State.{State}
+use Rattle.states.specs.declared.State.the-variants.{Idle, Offered, Unverified, Parameters, Ready, Charging, Stopping, Error}
+use Rattle.outcomes.specs.declared.Outcome.{Outcome}
+use Rattle.outcomes.specs.declared.Outcome.the-variants as outcome
+use Rattle.turns.specs.declared.Turn.{Turn}
+use Rattle.turns.specs.declared.Turn.the-variants as turn
 use Rattle.session.specs.declared.Session.{Session}
 use Rattle.session.specs.Message.{sessionAfter, appliedOf, messageOf}
 use Rattle.session.specs.Tick.{turnedBy, turnIn}
-use Rattle.session_paper_counts.specs.Literal.{grown, counted, literalIn, literalAdvance, literalTick}
-use Rattle.broadcasts.specs.declared.beat.Beat.{Beat}
-use Rattle.queries.specs.declared.Queries.{Queries}
+use Rattle.literal.specs.Literal.{grown, counted, literalIn, literalAdvance, literalTick}
 use Rattle.controller.specs.declared.Controller.{Controller}
 use Rattle.controller.specs.declared.Answer.{Answer}
-use Rattle.refusals.specs.Frame.{isIdle, listed, notCan, flagsSet, notForUs, badSource}
-use Rattle.controller.specs.Frame.{refused, mayCharge, withSession, contentTaken, chargeTo, withQueries, queryTo, messageTo, knownTo, frameTo}
+use Rattle.refusals.specs.Frame.{isIdle}
+use Rattle.controller.specs.Frame.{frameTo}
 use Rattle.controller.specs.Tick.{accepted, chargeFrames}
 use Rattle.controller.specs.Start.{freshOf, startWith, startOf}
-use Rattle.demands.specs.Machine.{started, On, paperNext, boxAfter}
-use Rattle.demands.specs.Apart.{Event, Came, Beaten, Wrote, Reread, callOf, accepts, readInto, isRead, after, ended, queryIn, isQuery}
-use Rattle.demands.specs.Apart.{fromStation, reaches, heard, Moment, Told, sentAt, moments, life, Alike}
+use Rattle.demands.specs.Says.{chargeOf, Says}
+use Rattle.demands.specs.Machine.{started, Using, paperNext, boxAfter}
+use Rattle.demands.specs.Events.{Event, FrameReceived, TickMade, RecordWritten, RecordRead, callOf, accepts, readInto, isRead, after, noSession, queryIn, isQuery}
+use Rattle.demands.specs.Apart.{fromStation, reaches, reaching, Moment, AfterFrame, sentAt, moments, life, Alike}
+use Rattle.demands.proofs.FrameTo.{sessionMoved, queriesMoved}
+use Rattle.demands.proofs.View.{pf-is, View, Refused, Asks, Charges, view}
+use Rattle.demands.proofs.Comes.{Comes, Left, Took, came, kept-settings, station-is}
 
-read-into : (a : SettingsRead) (c : Controller) → started (startWith a) (On c) ≡ On (readInto a c)
+read-into : (a : SettingsRead) (c : Controller) → started (startWith a) (Using c) ≡ Using (readInto a c)
 unfolding started startWith readInto
 read-into (read.Read x) c = refl
 read-into (read.Refused n) c = refl
 
 -- the controller after an event is the machine's
-pub after-is : (c : Controller) (e : Event) → boxAfter paperNext (On c) (callOf e) ≡ On (after c e)
+pub after-is : (c : Controller) (e : Event) → boxAfter paperNext (Using c) (callOf e) ≡ Using (after c e)
 unfolding boxAfter after accepted accepts startOf
-after-is c (Came id s) = refl
-after-is c (Beaten r v t old) = refl
-after-is c (Wrote old) = refl
-after-is c (Reread s) = read-into (readOf s) c
+after-is c (FrameReceived id s) = refl
+after-is c (TickMade r v t old) = refl
+after-is c (RecordWritten old) = refl
+after-is c (RecordRead s) = read-into (readOf s) c
 
--- ---- a choice by a test
-pub choice : (P : Answer → Type 0) (t : Bool) (a b : Answer) → (t ≡ true → P a) → (t ≡ false → P b) → P (cond t a b)
-choice P true a b f g = f refl
-choice P false a b f g = g refl
+-- ---- a frame that cannot reach the session leaves it as it was
+-- by what it says a source is the frame's source, and the frame is no query
+pub says-from : (x : Settings) (st : ℕ) (m : ChargeMessage) (id : ℕ) (s : List ℕ) → Says x st m id s → fromStation st id ≡ true
+unfolding fromStation isQuery queryIn
+says-from x st m id s h = rw (h .source, eq-eqb st st refl, pf-is (x .own) id s (message.Charge (chargeOf m)) (h .checks))
 
-pub choices : (P : Answer → Answer → Type 0) (t : Bool) (a b c d : Answer) → P a c → P b d → P (cond t a b) (cond t c d)
-choices P true a b c d f g = f
-choices P false a b c d f g = g
-
-and-true : (a : Bool) → (a && true) ≡ false → a ≡ false
-and-true true h = h
-and-true false h = refl
-
--- ---- a frame sees only settings and session, unless it is a query
-abbrev pub made : Settings → Session → Beat → Queries → Controller
-made x s b q = record { settings = x; session = s; beat = b; queries = q }
-
--- the same settings, the same session, and by a frame that is no query the same number
-record Same (asks : Bool) (a b : Answer) : Type 0 where
-  alike : Alike (a .controller) (b .controller)
-  number : asks ≡ false → a .number ≡ b .number
-
-module _ (x : Settings) (s : Session) (b d : Beat) (p q : Queries) where
-  abbrev left : Controller
-  left = made x s b p
-
-  abbrev right : Controller
-  right = made x s d q
-
-  refuses : (asks : Bool) (n : ℕ) → Same asks (refused n left) (refused n right)
-  refuses asks n = record { alike = record { settings = refl; session = refl }; number = λ h. refl }
-
-  takes : (source : ℕ) (k : Content) → Same false (contentTaken left source k) (contentTaken right source k)
-  unfolding contentTaken withSession
-  takes source (content.Allowed m) = record { alike = record { settings = refl; session = refl }; number = λ h. refl }
-  takes source (content.Refused n) = refuses false n
-
-  asks-same : (source : ℕ) (k : Query) → Same true (queryTo left source k) (queryTo right source k)
-  unfolding queryTo withQueries
-  asks-same source k = record { alike = record { settings = refl; session = refl }; number = λ h. absurd (false≢true (sym h)) }
-
-  knows : (source : ℕ) (r : Recognized) (l : List ℕ) → Same (queryIn r) (knownTo left source r l) (knownTo right source r l)
-  unfolding knownTo messageTo chargeTo mayCharge queryIn
-  knows source (recognized.As (message.Charge k)) l =
-      choices (Same false) (ltb (length l) (rowOf (message.Charge k) .2)) _ _ _ _ (refuses false 8)
-      (choices (Same false) (mayCharge left source) _ _ _ _ (takes source (contentOf k l)) (refuses false 9))
-  knows source (recognized.As (message.Query k)) l =
-      choices (Same true) (ltb (length l) (rowOf (message.Query k) .2)) _ _ _ _ (refuses true 8) (asks-same source k)
-  knows source (recognized.Refused n) l = refuses false n
-
-  frames-same : (id : ℕ) (l : List ℕ) → Same (isQuery id) (frameTo left id l) (frameTo right id l)
-  unfolding frameTo isQuery
-  frames-same id l =
-      choices (Same (isQuery id)) (notCan id l) _ _ _ _ (refuses _ 3)
-      (choices (Same (isQuery id)) (flagsSet (partsOf id)) _ _ _ _ (refuses _ 4)
-      (choices (Same (isQuery id)) (notForUs (x .own) (partsOf id)) _ _ _ _ (refuses _ 5)
-      (choices (Same (isQuery id)) (badSource (x .own) (partsOf id)) _ _ _ _ (refuses _ 6) (knows (partsOf id .source) (recognizedOf (partsOf id .pf)) l))))
-
--- ---- a frame that the session cannot hear leaves it as it was
-module _ (c : Controller) where
-  abbrev Stays : Answer → Type 0
-  Stays a = a .controller .session ≡ c .session
-
-  -- in a session, whoever may charge is its station
-  may-open : (source : ℕ) → ended c ≡ false → mayCharge c source ≡ true → eqb source (c .session .station) ≡ true
-  unfolding mayCharge ended
-  may-open source o m =
-      sym (ap (λ (i : Bool). cond i (listed source (c .settings .stations)) (eqb source (c .session .station))) o) ∙ m
-
-  stays-unheard : (source : ℕ) (r : Recognized) (l : List ℕ) → ended c ≡ false → (eqb source (c .session .station) && not (queryIn r)) ≡ false
-      → Stays (knownTo c source r l)
-  unfolding knownTo messageTo chargeTo mayCharge queryIn queryTo withQueries ended
-  stays-unheard source (recognized.As (message.Charge k)) l o h =
-      choice Stays (ltb (length l) (rowOf (message.Charge k) .2)) _ _ (λ t. refl)
-      (λ t. choice Stays (mayCharge c source) _ _ (λ m. absurd (false≢true (sym (and-true (eqb source (c .session .station)) h) ∙ may-open source o m))) (λ m. refl))
-  stays-unheard source (recognized.As (message.Query k)) l o h =
-      choice Stays (ltb (length l) (rowOf (message.Query k) .2)) _ _ (λ t. refl) (λ t. refl)
-  stays-unheard source (recognized.Refused n) l o h = refl
-
-  unheard-stays : (id : ℕ) (l : List ℕ) → ended c ≡ false → fromStation (c .session .station) id ≡ false → Stays (frameTo c id l)
-  unfolding frameTo fromStation isQuery
-  unheard-stays id l o h =
-      choice Stays (notCan id l) _ _ (λ t. refl)
-      (λ t. choice Stays (flagsSet (partsOf id)) _ _ (λ t. refl)
-      (λ t. choice Stays (notForUs (c .settings .own) (partsOf id)) _ _ (λ t. refl)
-      (λ t. choice Stays (badSource (c .settings .own) (partsOf id)) _ _ (λ t. refl)
-      (λ t. stays-unheard (partsOf id .source) (recognizedOf (partsOf id .pf)) l o h))))
+unreached-stays : (c : Controller) (id : ℕ) (s : List ℕ) (a : Answer) → Comes c id s a → noSession c ≡ false
+    → fromStation (c .session .station) id ≡ false → a .controller .session ≡ c .session
+unfolding noSession
+unreached-stays c id s a (Left u e n) o h = e
+unreached-stays c id s a (Took m says may e) o h =
+    let k : fromStation (partsOf id .source) id ≡ true = says-from (c .settings) (partsOf id .source) m id s says in
+    absurd (false≢true (sym h ∙ (ap (λ (z : ℕ). fromStation z id) (sym (station-is c (partsOf id .source) o may)) ∙ k)))
 
 -- ---- an open session keeps its station
 abbrev pub Kept : ℕ → Session → Type 0
@@ -183,34 +105,15 @@ kept-after a s (outcome.Enter st) e h = e
 kept-after a s (outcome.Keep st) e h = e
 kept-after a s outcome.End e h = absurd (false≢true (sym h))
 
-module _ (c : Controller) (o : ended c ≡ false) where
-  abbrev Keeps : Answer → Type 0
-  Keeps a = Kept (c .session .station) (a .controller .session)
-
-  kept-content : (source : ℕ) (k : Content) → source ≡ c .session .station → Keeps (contentTaken c source k)
-  unfolding contentTaken withSession messageOf appliedOf
-  kept-content source (content.Allowed m) e =
-      subst (λ (a : ℕ). Kept a (messageOf (c .settings) source (c .session) m .session)) e (kept-after source (c .session) _ (sym e))
-  kept-content source (content.Refused n) e = λ h. refl
-
-  kept-known : (source : ℕ) (r : Recognized) (l : List ℕ) → Keeps (knownTo c source r l)
-  unfolding knownTo messageTo chargeTo queryTo withQueries
-  kept-known source (recognized.As (message.Charge k)) l =
-      choice Keeps (ltb (length l) (rowOf (message.Charge k) .2)) _ _ (λ t h. refl)
-      (λ t. choice Keeps (mayCharge c source) _ _
-      (λ m. kept-content source (contentOf k l) (eqb-true source (c .session .station) (may-open c source o m))) (λ m h. refl))
-  kept-known source (recognized.As (message.Query k)) l =
-      choice Keeps (ltb (length l) (rowOf (message.Query k) .2)) _ _ (λ t h. refl) (λ t h. refl)
-  kept-known source (recognized.Refused n) l = λ h. refl
-
-  kept-frame : (id : ℕ) (l : List ℕ) → Keeps (frameTo c id l)
-  unfolding frameTo
-  kept-frame id l =
-      choice Keeps (notCan id l) _ _ (λ t h. refl)
-      (λ t. choice Keeps (flagsSet (partsOf id)) _ _ (λ t h. refl)
-      (λ t. choice Keeps (notForUs (c .settings .own) (partsOf id)) _ _ (λ t h. refl)
-      (λ t. choice Keeps (badSource (c .settings .own) (partsOf id)) _ _ (λ t h. refl)
-      (λ t. kept-known (partsOf id .source) (recognizedOf (partsOf id .pf)) l))))
+module _ (c : Controller) (o : noSession c ≡ false) where
+  kept-frame : (id : ℕ) (s : List ℕ) (a : Answer) → Comes c id s a → Kept (c .session .station) (a .controller .session)
+  unfolding sessionMoved messageOf appliedOf noSession
+  kept-frame id s a (Left u e n) h = ap (λ (z : Session). z .station) e
+  kept-frame id s a (Took m says may e) h =
+      let k : partsOf id .source ≡ c .session .station = station-is c (partsOf id .source) o may in
+      subst (λ (z : Answer). Kept (c .session .station) (z .controller .session)) (sym e)
+      (subst (λ (z : ℕ). Kept z (messageOf (c .settings) (partsOf id .source) (c .session) m .session)) k
+      (kept-after (partsOf id .source) (c .session) _ (sym k))) h
 
   kept-choice : (st : ℕ) (t : Bool) (d : Controller) → st ≡ c .session .station → Kept st (d .session) → Kept st (cond t d c .session)
   kept-choice st true d e k = k
@@ -223,42 +126,14 @@ module _ (c : Controller) (o : ended c ≡ false) where
 
   pub kept-event : (e : Event) → Kept (c .session .station) (after c e .session)
   unfolding after paperNext
-  kept-event (Came id s) = kept-frame id s
-  kept-event (Beaten r v t old) = kept-choice (c .session .station) (accepts r v t old) (paperNext c r v t) refl (kept-tick (c .settings) r _ (c .session))
-  kept-event (Wrote old) = λ h. refl
-  kept-event (Reread s) = kept-read (readOf s)
+  kept-event (FrameReceived id s) = kept-frame id s (frameTo c id s) (came c id s)
+  kept-event (TickMade r v t old) = kept-choice (c .session .station) (accepts r v t old) (paperNext c r v t) refl (kept-tick (c .settings) r _ (c .session))
+  kept-event (RecordWritten old) = λ h. refl
+  kept-event (RecordRead s) = kept-read (readOf s)
 
-pub kept-open : (c : Controller) (e : Event) → ended c ≡ false → ended (after c e) ≡ false → after c e .session .station ≡ c .session .station
-unfolding ended
+pub kept-open : (c : Controller) (e : Event) → noSession c ≡ false → noSession (after c e) ≡ false → after c e .session .station ≡ c .session .station
+unfolding noSession
 kept-open c e o h = kept-event c o e h
-
--- a frame never changes the settings
-module _ (c : Controller) where
-  abbrev Set : Answer → Type 0
-  Set a = a .controller .settings ≡ c .settings
-
-  set-content : (source : ℕ) (k : Content) → Set (contentTaken c source k)
-  unfolding contentTaken withSession
-  set-content source (content.Allowed m) = refl
-  set-content source (content.Refused n) = refl
-
-  set-known : (source : ℕ) (r : Recognized) (l : List ℕ) → Set (knownTo c source r l)
-  unfolding knownTo messageTo chargeTo queryTo withQueries
-  set-known source (recognized.As (message.Charge k)) l =
-      choice Set (ltb (length l) (rowOf (message.Charge k) .2)) _ _ (λ t. refl)
-      (λ t. choice Set (mayCharge c source) _ _ (λ m. set-content source (contentOf k l)) (λ m. refl))
-  set-known source (recognized.As (message.Query k)) l =
-      choice Set (ltb (length l) (rowOf (message.Query k) .2)) _ _ (λ t. refl) (λ t. refl)
-  set-known source (recognized.Refused n) l = refl
-
-  pub kept-settings : (id : ℕ) (l : List ℕ) → Set (frameTo c id l)
-  unfolding frameTo
-  kept-settings id l =
-      choice Set (notCan id l) _ _ (λ t. refl)
-      (λ t. choice Set (flagsSet (partsOf id)) _ _ (λ t. refl)
-      (λ t. choice Set (notForUs (c .settings .own) (partsOf id)) _ _ (λ t. refl)
-      (λ t. choice Set (badSource (c .settings .own) (partsOf id)) _ _ (λ t. refl)
-      (λ t. set-known (partsOf id .source) (recognizedOf (partsOf id .pf)) l))))
 
 and-not : (a b : Bool) → (a && not b) ≡ true → b ≡ false
 and-not true true h = absurd (false≢true h)
@@ -270,12 +145,27 @@ unfolding fromStation
 no-query st id h = and-not (eqb (partsOf id .source) st) (isQuery id) h
 
 -- ---- two controllers that are alike stay so, and are seen to do the same
+-- the same settings, the same session, and by a frame that is no query the same number
+record AlikeAfter (asks : Bool) (a b : Answer) : Type 0 where
+  alike : Alike (a .controller) (b .controller)
+  number : asks ≡ false → a .number ≡ b .number
+
 module _ (c d : Controller) (a : Alike c d) where
-  same-frame : (id : ℕ) (l : List ℕ) → Same (isQuery id) (frameTo c id l) (frameTo d id l)
-  same-frame id l =
-      subst (λ (x : Settings). Same (isQuery id) (frameTo c id l) (frameTo (made x (d .session) (d .beat) (d .queries)) id l)) (a .settings)
-      (subst (λ (s : Session). Same (isQuery id) (frameTo c id l) (frameTo (made (c .settings) s (d .beat) (d .queries)) id l)) (a .session)
-      (frames-same (c .settings) (c .session) (c .beat) (d .beat) (c .queries) (d .queries) id l))
+  -- by the cases of the view: refused; a query, which moves the queries alone; a charge message, which goes by settings and
+  -- session
+  by-case : (id : ℕ) (l : List ℕ) → View (c .settings .own) id l → AlikeAfter (isQuery id) (frameTo c id l) (frameTo d id l)
+  unfolding sessionMoved queriesMoved
+  by-case id l (Refused n h each) =
+      rw (each c refl, each d (rw (a .settings))) (record { alike = a; number = λ f. refl })
+  by-case id l (Asks q h each) =
+      rw (each c refl, each d (rw (a .settings)))
+      (record { alike = record { settings = a .settings; session = a .session }; number = λ f. absurd (false≢true (sym f ∙ h)) })
+  by-case id l (Charges k h p each) =
+      rw (each c refl, each d (rw (a .settings)))
+      (record { alike = record { settings = a .settings; session = rw (a .settings, a .session) }; number = λ f. rw (a .settings, a .session) })
+
+  same-frame : (id : ℕ) (l : List ℕ) → AlikeAfter (isQuery id) (frameTo c id l) (frameTo d id l)
+  same-frame id l = by-case id l (view (c .settings .own) id l)
 
   alike-choice : (t : Bool) (p q : Controller) → Alike p q → Alike (cond t p c) (cond t q d)
   alike-choice true p q h = h
@@ -292,14 +182,14 @@ module _ (c d : Controller) (a : Alike c d) where
 
   pub alike-event : (e : Event) → Alike (after c e) (after d e)
   unfolding after
-  alike-event (Came id s) = same-frame id s .alike
-  alike-event (Beaten r v t old) = alike-choice (accepts r v t old) _ _ (alike-next r v t)
-  alike-event (Wrote old) = a
-  alike-event (Reread s) = alike-read (readOf s)
+  alike-event (FrameReceived id s) = same-frame id s .alike
+  alike-event (TickMade r v t old) = alike-choice (accepts r v t old) _ _ (alike-next r v t)
+  alike-event (RecordWritten old) = a
+  alike-event (RecordRead s) = alike-read (readOf s)
 
   told : (id : ℕ) (l : List ℕ) (t : Bool) → (t ≡ true → isQuery id ≡ false)
-      → cond t (Told (frameTo c id l .number) (frameTo c id l .controller .session) ∷ []) []
-      ≡ cond t (Told (frameTo d id l .number) (frameTo d id l .controller .session) ∷ []) []
+      → cond t (AfterFrame (frameTo c id l .number) (frameTo c id l .controller .session) ∷ []) []
+      ≡ cond t (AfterFrame (frameTo d id l .number) (frameTo d id l .controller .session) ∷ []) []
   told id l true f = rw (same-frame id l .number (f refl), same-frame id l .alike .session)
   told id l false f = refl
 
@@ -309,12 +199,12 @@ module _ (c d : Controller) (a : Alike c d) where
 
   pub same-moments : (e : Event) → moments c e ≡ moments d e
   unfolding moments sentAt
-  same-moments (Came id s) =
+  same-moments (FrameReceived id s) =
       told id s (fromStation (c .session .station) id) (no-query (c .session .station) id)
-      ∙ ap (λ (z : Session). cond (fromStation (z .station) id) (Told (frameTo d id s .number) (frameTo d id s .controller .session) ∷ []) []) (a .session)
-  same-moments (Beaten r v t old) = rw (sent-same r v t, alike-event (Beaten r v t old) .session)
-  same-moments (Wrote old) = refl
-  same-moments (Reread s) = refl
+      ∙ ap (λ (z : Session). cond (fromStation (z .station) id) (AfterFrame (frameTo d id s .number) (frameTo d id s .controller .session) ∷ []) []) (a .session)
+  same-moments (TickMade r v t old) = rw (sent-same r v t, alike-event (TickMade r v t old) .session)
+  same-moments (RecordWritten old) = refl
+  same-moments (RecordRead s) = refl
 
 -- ---- an event that does not reach the session leaves it as it was, and is not seen
 unread : (a : SettingsRead) (c : Controller) → isRead a ≡ false → Alike (readInto a c) c
@@ -322,39 +212,39 @@ unfolding isRead readInto
 unread (read.Read x) c h = absurd (false≢true (sym h))
 unread (read.Refused n) c h = record { settings = refl; session = refl }
 
-pub unreached : (c : Controller) (e : Event) → ended c ≡ false → reaches (c .session .station) e ≡ false → Alike (after c e) c
+pub unreached : (c : Controller) (e : Event) → noSession c ≡ false → reaches (c .session .station) e ≡ false → Alike (after c e) c
 unfolding after reaches
-unreached c (Came id s) o h = record { settings = kept-settings c id s; session = unheard-stays c id s o h }
-unreached c (Beaten r v t old) o h = absurd (false≢true (sym h))
-unreached c (Wrote old) o h = record { settings = refl; session = refl }
-unreached c (Reread s) o h = unread (readOf s) c h
+unreached c (FrameReceived id s) o h = record { settings = kept-settings c id s; session = unreached-stays c id s (frameTo c id s) (came c id s) o h }
+unreached c (TickMade r v t old) o h = absurd (false≢true (sym h))
+unreached c (RecordWritten old) o h = record { settings = refl; session = refl }
+unreached c (RecordRead s) o h = unread (readOf s) c h
 
 unseen : (c : Controller) (e : Event) → reaches (c .session .station) e ≡ false → moments c e ≡ []
 unfolding moments reaches
-unseen c (Came id s) h = rw h
-unseen c (Beaten r v t old) h = absurd (false≢true (sym h))
-unseen c (Wrote old) h = refl
-unseen c (Reread s) h = rw h
+unseen c (FrameReceived id s) h = rw h
+unseen c (TickMade r v t old) h = absurd (false≢true (sym h))
+unseen c (RecordWritten old) h = refl
+unseen c (RecordRead s) h = rw h
 
--- ---- a session's life over the events is its life over those that it can hear
+-- ---- a session's life over the events is its life over those that can reach it
 -- the rest of a life, as long as there is a session
 rest : Controller → List Event → List Moment
-rest c es = cond (ended c) [] (life c es)
+rest c es = cond (noSession c) [] (life c es)
 
-rest-open : (c : Controller) (es : List Event) → ended c ≡ false → rest c es ≡ life c es
+rest-open : (c : Controller) (es : List Event) → noSession c ≡ false → rest c es ≡ life c es
 unfolding rest
 rest-open c es o = rw o
 
-pub same-ended : (c d : Controller) → Alike c d → ended c ≡ ended d
-unfolding ended
-same-ended c d a = rw (a .session)
+pub same-noSession : (c d : Controller) → Alike c d → noSession c ≡ noSession d
+unfolding noSession
+same-noSession c d a = rw (a .session)
 
-after-both : (c d : Controller) (es fs : List Event) → Alike c d → (ended c ≡ false → life c es ≡ life d fs) → rest c es ≡ rest d fs
+after-both : (c d : Controller) (es fs : List Event) → Alike c d → (noSession c ≡ false → life c es ≡ life d fs) → rest c es ≡ rest d fs
 unfolding rest
 after-both c d es fs a f =
-    both (ended c) refl ∙ ap (λ (t : Bool). cond t [] (life d fs)) (same-ended c d a)
+    both (noSession c) refl ∙ ap (λ (t : Bool). cond t [] (life d fs)) (same-noSession c d a)
   where
-    both : (t : Bool) → ended c ≡ t → cond t [] (life c es) ≡ cond t [] (life d fs)
+    both : (t : Bool) → noSession c ≡ t → cond t [] (life c es) ≡ cond t [] (life d fs)
     both true e = refl
     both false e = f e
 
@@ -365,35 +255,36 @@ pub then : (c d e : Controller) → Alike c d → Alike d e → Alike c e
 then c d e a b = record { settings = a .settings ∙ b .settings; session = a .session ∙ b .session }
 
 Alone : ℕ → List Event → Type 0
-Alone st es = (c d : Controller) → Alike c d → c .session .station ≡ st → ended c ≡ false → life c es ≡ life d (heard st es)
+Alone st es = (c d : Controller) → Alike c d → c .session .station ≡ st → noSession c ≡ false → life c es ≡ life d (reaching st es)
 
-one-more : (st : ℕ) (e : Event) (es : List Event) → Alone st es → (c d : Controller) → Alike c d → c .session .station ≡ st → ended c ≡ false
-    → (t : Bool) → reaches st e ≡ t → moments c e ++ rest (after c e) es ≡ life d (cond t (e ∷ heard st es) (heard st es))
+one-more : (st : ℕ) (e : Event) (es : List Event) → Alone st es → (c d : Controller) → Alike c d → c .session .station ≡ st → noSession c ≡ false
+    → (t : Bool) → reaches st e ≡ t → moments c e ++ rest (after c e) es ≡ life d (cond t (e ∷ reaching st es) (reaching st es))
 unfolding Alone life rest
 one-more st e es ih c d a k o true h =
     ap (λ (m : List Moment). m ++ rest (after c e) es) (same-moments c d a e)
     ∙ ap (λ (l : List Moment). moments d e ++ l)
-    (after-both (after c e) (after d e) es (heard st es) (alike-event c d a e)
+    (after-both (after c e) (after d e) es (reaching st es) (alike-event c d a e)
     (λ p. ih (after c e) (after d e) (alike-event c d a e) (kept-open c e o p ∙ k) p))
 one-more st e es ih c d a k o false h =
     let u : Alike (after c e) c = unreached c e o (ap (λ (z : ℕ). reaches z e) k ∙ h) in
-    let p : ended (after c e) ≡ false = same-ended (after c e) c u ∙ o in
+    let p : noSession (after c e) ≡ false = same-noSession (after c e) c u ∙ o in
     ap (λ (m : List Moment). m ++ rest (after c e) es) (unseen c e (ap (λ (z : ℕ). reaches z e) k ∙ h))
     ∙ (rest-open (after c e) es p
     ∙ ih (after c e) d (then (after c e) c d u a) (ap (λ (z : Session). z .station) (u .session) ∙ k) p)
 
 alone : (st : ℕ) (es : List Event) → Alone st es
-unfolding Alone life heard rest
+unfolding Alone life reaching rest
 alone st [] c d a k o = refl
 alone st (e ∷ es) c d a k o = one-more st e es (alone st es) c d a k o (reaches st e) refl
 
--- two controllers with the same settings and the same open session, and two lists of events in which the session can hear the same: the
--- session ends at the same place in both or in neither, and everything that is seen of it up to there agrees
-pub undisturbed : (c d : Controller) (ks ls : List Event) → ended c ≡ false → Alike c d
-    → heard (c .session .station) ks ≡ heard (c .session .station) ls → life c ks ≡ life d ls
+-- two controllers with the same settings and the same open session, and two lists of events by which the same reaches
+-- the session: the session ends at the same place in both or in neither, and everything that is seen of it up to there
+-- agrees
+pub undisturbed : (c d : Controller) (ks ls : List Event) → noSession c ≡ false → Alike c d
+    → reaching (c .session .station) ks ≡ reaching (c .session .station) ls → life c ks ≡ life d ls
 unfolding Alone
 undisturbed c d ks ls o a h =
     alone (c .session .station) ks c c (record { settings = refl; session = refl }) refl o
     ∙ (ap (life c) h
     ∙ sym (alone (c .session .station) ls d c (back c d a) (ap (λ (z : Session). z .station) (sym (a .session)))
-    (sym (same-ended c d a) ∙ o)))
+    (sym (same-noSession c d a) ∙ o)))

@@ -1,6 +1,7 @@
--- Demand 2: over any sequence of calls, from no controller on, the code gives what the paper says: the numbers, the bytes written, the frames
--- sent and the later contents of each lent buffer, call for call, however long a session lasts and however many there were before.
--- The entry points' promises are this machine: `tick-is-the-machine` and the three after it. Assumes nothing.
+-- Demand 2: over any sequence of calls, from no controller on, the code gives what the paper says: the numbers, the
+-- bytes written, the frames sent and the later contents of each lent buffer, call for call, however long a session
+-- lasts and however many there were before. The entry points' promises are this machine: `tick-is-the-machine` and the
+-- three after it. Assumes nothing.
 use Prim.Native.Nat.{ℕ, _+_, _*_}
 use mathlib.Core.Path.{_≡_, refl, ap}
 use mathlib.Core.Bool.{Bool, true, false, cond}
@@ -18,7 +19,7 @@ use Rattle.settings.specs.declared.SettingsRead.{SettingsRead}
 use Rattle.settings.specs.declared.SettingsRead.the-variants as read
 use Rattle.settings.specs.Read.{readOf, recordNumber}
 use Rattle.settings.specs.Write.{Wrote}
-use Rattle.session_paper_counts.proofs.InStep.{start-in-step}
+use Rattle.literal.proofs.InStep.{start-in-step}
 use Rattle.controller.specs.declared.Controller.{Controller}
 use Rattle.controller.specs.declared.Answer.{Answer}
 use Rattle.controller.specs.declared.Start.{Start}
@@ -28,7 +29,7 @@ use Rattle.controller.specs.Start.{freshOf, startWith, startOf, startNumber}
 use Rattle.controller.specs.Frame.{frameTo}
 use Rattle.refusals.specs.Tick.{tickNumber}
 use Rattle.controller.specs.Tick.{tickFrames, tickNext, accepted, TickIs}
-use Rattle.demands.specs.Machine.{Call, Read, Receive, Tick, Write, Box, Off, On, Gave, paperNext, started, boxAfter, seenOf, run, boxAt}
+use Rattle.demands.specs.Machine.{Call, Read, Receive, Tick, Write, Box, NoController, Using, Gave, paperNext, started, boxAfter, seenOf, run, boxAt}
 use Rattle.demands.specs.InStep.{codeOf, codeBox, InStep}
 use Rattle.demands.proofs.Steps.{frame-steps, frames-step, next-steps}
 
@@ -40,8 +41,8 @@ gave false n bytes frames new old e = refl
 
 pub tick-is-the-machine : (c : Controller) (r : Readings) (v : List ℕ) (t : List ℤ) (old new : List ℕ) (k : Ticked)
     → TickIs c r v t old new k
-    → (seenOf tickNext (On c) (Tick r v t old) ≡ Gave (k .number) (k .bytes) (cond (accepted c r v t (length old)) (tickFrames c r v t) []) new)
-    × (boxAfter tickNext (On c) (Tick r v t old) ≡ On (k .controller))
+    → (seenOf tickNext (Using c) (Tick r v t old) ≡ Gave (k .number) (k .bytes) (cond (accepted c r v t (length old)) (tickFrames c r v t) []) new)
+    × (boxAfter tickNext (Using c) (Tick r v t old) ≡ Using (k .controller))
 unfolding seenOf boxAfter accepted
 tick-is-the-machine c r v t old new k h = (
   rw (h .number, h .bytes, h .later)
@@ -52,7 +53,7 @@ tick-is-the-machine c r v t old new k h = (
 
 -- as `frame` promises it
 pub frame-is-the-machine : (c : Controller) (id : ℕ) (s : List ℕ) (a : Answer) → a ≡ frameTo c id s
-    → (seenOf tickNext (On c) (Receive id s) ≡ Gave (a .number) 0 [] []) × (boxAfter tickNext (On c) (Receive id s) ≡ On (a .controller))
+    → (seenOf tickNext (Using c) (Receive id s) ≡ Gave (a .number) 0 [] []) × (boxAfter tickNext (Using c) (Receive id s) ≡ Using (a .controller))
 unfolding seenOf boxAfter
 frame-is-the-machine c id s a h = (rw h, rw h)
 
@@ -62,7 +63,7 @@ pub read-is-the-machine : (b : Box) (s : List ℕ) (a : Start) → startNumber a
 unfolding seenOf boxAfter
 read-is-the-machine b s a n h = (rw n, rw h)
 
-pub made-is-in-use : (b : Box) (c : Controller) → started (Made c) b ≡ On c
+pub made-is-in-use : (b : Box) (c : Controller) → started (Made c) b ≡ Using c
 unfolding started
 made-is-in-use b c = refl
 
@@ -72,7 +73,7 @@ refused-stays b n = refl
 
 -- and as `write` promises it
 pub write-is-the-machine : (c : Controller) (old new : List ℕ) (w : Written) → Wrote (c .settings) old new w
-    → (seenOf tickNext (On c) (Write old) ≡ Gave (w .number) (w .bytes) [] new) × (boxAfter tickNext (On c) (Write old) ≡ On c)
+    → (seenOf tickNext (Using c) (Write old) ≡ Gave (w .number) (w .bytes) [] new) × (boxAfter tickNext (Using c) (Write old) ≡ Using c)
 unfolding seenOf boxAfter
 write-is-the-machine c old new w h = (rw (h .answer, h .later), refl)
 
@@ -93,40 +94,40 @@ fresh-in-step x = rw start-in-step
 
 with-in-step : (a : SettingsRead) (b : Box) → codeBox (started (startWith a) b) ≡ started (startWith a) (codeBox b)
 unfolding started startWith codeBox
-with-in-step (read.Read x) b = ap On (fresh-in-step x)
+with-in-step (read.Read x) b = ap Using (fresh-in-step x)
 with-in-step (read.Refused n) b = refl
 
-ticked : (t : Bool) (c d : Controller) {c' d' : Controller} → codeOf c ≡ c' → codeOf d ≡ d' → codeBox (On (cond t c d)) ≡ On (cond t c' d')
+ticked : (t : Bool) (c d : Controller) {c' d' : Controller} → codeOf c ≡ c' → codeOf d ≡ d' → codeBox (Using (cond t c d)) ≡ Using (cond t c' d')
 unfolding codeBox
-ticked true c d h k = ap On h
-ticked false c d h k = ap On k
+ticked true c d h k = ap Using h
+ticked false c d h k = ap Using k
 
 -- one call, from every box
 after-in-step : (b : Box) (k : Call) → codeBox (boxAfter paperNext b k) ≡ boxAfter tickNext (codeBox b) k
 unfolding boxAfter codeBox startOf accepted
-after-in-step Off (Read s) = with-in-step (readOf s) Off
-after-in-step (On c) (Read s) = with-in-step (readOf s) (On c)
-after-in-step Off (Receive id s) = refl
-after-in-step (On c) (Receive id s) = ap On (frame-in-step c id s .1)
-after-in-step Off (Tick r v t old) = refl
-after-in-step (On c) (Tick r v t old) = ticked (eqb (tickNumber r v t (length old)) 0) (paperNext c r v t) c (next-steps c r v t) refl
-after-in-step Off (Write old) = refl
-after-in-step (On c) (Write old) = refl
+after-in-step NoController (Read s) = with-in-step (readOf s) NoController
+after-in-step (Using c) (Read s) = with-in-step (readOf s) (Using c)
+after-in-step NoController (Receive id s) = refl
+after-in-step (Using c) (Receive id s) = ap Using (frame-in-step c id s .1)
+after-in-step NoController (Tick r v t old) = refl
+after-in-step (Using c) (Tick r v t old) = ticked (eqb (tickNumber r v t (length old)) 0) (paperNext c r v t) c (next-steps c r v t) refl
+after-in-step NoController (Write old) = refl
+after-in-step (Using c) (Write old) = refl
 
-write-in-step : (c : Controller) (old : List ℕ) → seenOf paperNext (On c) (Write old) ≡ seenOf tickNext (On (codeOf c)) (Write old)
+write-in-step : (c : Controller) (old : List ℕ) → seenOf paperNext (Using c) (Write old) ≡ seenOf tickNext (Using (codeOf c)) (Write old)
 unfolding seenOf codeOf
 write-in-step c old = refl
 
 seen-in-step : (b : Box) (k : Call) → seenOf paperNext b k ≡ seenOf tickNext (codeBox b) k
 unfolding seenOf codeBox accepted
-seen-in-step Off (Read s) = refl
-seen-in-step (On c) (Read s) = refl
-seen-in-step Off (Receive id s) = refl
-seen-in-step (On c) (Receive id s) = ap (λ (n : ℕ). Gave n 0 [] []) (frame-in-step c id s .0)
-seen-in-step Off (Tick r v t old) = refl
-seen-in-step (On c) (Tick r v t old) = rw (← frames-step c r v t)
-seen-in-step Off (Write old) = refl
-seen-in-step (On c) (Write old) = write-in-step c old
+seen-in-step NoController (Read s) = refl
+seen-in-step (Using c) (Read s) = refl
+seen-in-step NoController (Receive id s) = refl
+seen-in-step (Using c) (Receive id s) = ap (λ (n : ℕ). Gave n 0 [] []) (frame-in-step c id s .0)
+seen-in-step NoController (Tick r v t old) = refl
+seen-in-step (Using c) (Tick r v t old) = rw (← frames-step c r v t)
+seen-in-step NoController (Write old) = refl
+seen-in-step (Using c) (Write old) = write-in-step c old
 
 -- any calls, from every box
 pub run-from : (b : Box) (ks : List Call) → run paperNext b ks ≡ run tickNext (codeBox b) ks
@@ -140,6 +141,6 @@ box-from b [] = refl
 box-from b (k ∷ ks) = rw (← after-in-step b k) (box-from (boxAfter paperNext b k) ks)
 
 -- THE DEMAND
-pub demand-2 : (ks : List Call) → (run paperNext Off ks ≡ run tickNext Off ks) × InStep (boxAt paperNext Off ks) (boxAt tickNext Off ks)
+pub demand-2 : (ks : List Call) → (run paperNext NoController ks ≡ run tickNext NoController ks) × InStep (boxAt paperNext NoController ks) (boxAt tickNext NoController ks)
 unfolding codeBox
-demand-2 ks = (run-from Off ks, box-from Off ks)
+demand-2 ks = (run-from NoController ks, box-from NoController ks)

@@ -1,5 +1,5 @@
--- The insurer's first question, "which message, in which state, may end a charge?": exactly the events of `EndsSession` end a session, after any
--- run, and exactly those of `EndsCharge` end a charge. Assumes nothing.
+-- The insurer's first question, "which message, in which state, may end a charge?": exactly the events of `EndsSession`
+-- end a session, after any run, and exactly those of `EndsCharge` end a charge. Assumes nothing.
 use Prim.Native.Nat.{ℕ}
 use mathlib.Core.Path.{_≡_, refl, sym, ap, subst, _∙_}
 use mathlib.Core.Bool.{Bool, true, false, not, _&&_, false≢true}
@@ -14,24 +14,25 @@ use Rattle.settings.specs.Read.{readOf}
 use Rattle.cells.specs.Summaries.{cellsOf}
 use Rattle.charge_messages.specs.declared.ChargeMessage.{ChargeMessage}
 use Rattle.charge_messages.specs.declared.ChargeMessage.the-variants.{Cim, Cvm, Cmp, Crm, Ccs, Cst, Cem}
-use Rattle.session_states.specs.declared.states.State.{State}
-use Rattle.session_states.specs.declared.states.State.the-variants.{Idle, Offered, Unverified, Parameters, Ready, Charging, Stopping, Error}
-use Rattle.session_by_message.specs.declared.Outcome.the-variants.{Refuse}
-use Rattle.session_by_message.specs.Message.{outcomeOf, inStopping}
+use Rattle.states.specs.declared.State.{State}
+use Rattle.states.specs.declared.State.the-variants.{Idle, Offered, Unverified, Parameters, Ready, Charging, Stopping, Error}
+use Rattle.outcomes.specs.declared.Outcome.the-variants.{Refuse}
+use Rattle.outcomes.specs.Message.{outcomeOf, inStopping}
 use Rattle.session.specs.declared.Session.{Session}
 use Rattle.session.specs.Message.{sessionAfter, appliedOf, messageOf}
 use Rattle.controller.specs.declared.Controller.{Controller}
 use Rattle.controller.specs.declared.Answer.{Answer}
 use Rattle.refusals.specs.Frame.{isIdle}
-use Rattle.controller.specs.Frame.{refused, withSession, frameTo}
+use Rattle.controller.specs.Frame.{refused, frameTo}
 use Rattle.controller.specs.Start.{freshOf}
 use Rattle.demands.specs.Says.{Says}
-use Rattle.demands.specs.Apart.{Event, Came, Beaten, Wrote, Reread, accepts, readInto, isRead, after, afterAll, ended}
+use Rattle.demands.specs.Events.{Event, FrameReceived, TickMade, RecordWritten, RecordRead, accepts, readInto, isRead, after, afterAll, noSession}
 use Rattle.demands.specs.Gone.{estGone}
 use Rattle.demands.specs.Kinds.{isCharging, isStopping}
 use Rattle.demands.specs.Stops.{whyOf, endsFor, leavesFor}
-use Rattle.demands.specs.Ends.{endsBy, leavesBy, EndsSession, ByCem, ByCst, ByTick, ByReading, EndsCharge, AtCcs, AtCst, AtCem, AtTick, AtReading}
-use Rattle.demands.proofs.Came.{Comes, Unmoved, Took, came, station-is, taken-in}
+use Rattle.demands.specs.Ends.{messageEnds, messageLeaves, EndsSession, ByCem, ByCst, ByTick, ByReading, EndsCharge, AtCcs, AtCst, AtCem, AtTick, AtReading}
+use Rattle.demands.proofs.FrameTo.{sessionMoved}
+use Rattle.demands.proofs.Comes.{Comes, Left, Took, came, station-is, taken-in}
 use Rattle.demands.proofs.Messages.{ends-message, leaves-message}
 use Rattle.demands.proofs.Gone.{est-gone}
 use Rattle.demands.proofs.Stops.{charging-open, which-tick-ends-a-session, which-tick-ends-a-charge}
@@ -60,17 +61,17 @@ early-in x n (Stopping k e) h g = rw g
 early-in x n Error h g = absurd (false≢true h)
 
 refuses-early : (c : Controller) → ltb 0 (c .session .count) ≡ false → isStopping (c .session .state) ≡ true
-    → withSession c (messageOf (c .settings) (c .session .station) (c .session) (Cst true)) ≡ refused 11 c
-unfolding withSession messageOf appliedOf sessionAfter
+    → sessionMoved c (messageOf (c .settings) (c .session .station) (c .session) (Cst true)) ≡ refused 11 c
+unfolding sessionMoved messageOf appliedOf sessionAfter
 refuses-early c g h = rw (early-in (c .settings) (c .session .count) (c .session .state) h g)
 
 -- in an open session, exactly which messages end it, and exactly which end its charge
 module _ (x : Settings) (source : ℕ) (s : Session) (m : ChargeMessage) where
-  pub which-message-ends-a-session : isIdle (s .state) ≡ false → isIdle (messageOf x source s m .session .state) ≡ endsBy (s .state) (s .count) m
+  pub which-message-ends-a-session : isIdle (s .state) ≡ false → isIdle (messageOf x source s m .session .state) ≡ messageEnds (s .state) (s .count) m
   unfolding messageOf appliedOf
   which-message-ends-a-session = ends-message x source (s .station) (s .silence) (s .count) (s .state) m
 
-  pub which-message-ends-a-charge : isCharging (s .state) ≡ true → isCharging (messageOf x source s m .session .state) ≡ not (leavesBy m)
+  pub which-message-ends-a-charge : isCharging (s .state) ≡ true → isCharging (messageOf x source s m .session .state) ≡ not (messageLeaves m)
   unfolding messageOf appliedOf
   which-message-ends-a-charge = leaves-message x source (s .station) (s .silence) (s .count) (s .state) m
 
@@ -85,8 +86,8 @@ module _ (c : Controller) (id : ℕ) (s : List ℕ) where
   its : (m : ChargeMessage) (source : ℕ) → source ≡ c .session .station → Says (c .settings) source m id s → Its m
   its m source e says = subst (λ (z : ℕ). Says (c .settings) z m id s) e says
 
-  ended-by : (m : ChargeMessage) → Its m → endsBy (c .session .state) (c .session .count) m ≡ true → EndsSession gone-by-count c (Came id s)
-  unfolding endsBy
+  ended-by : (m : ChargeMessage) → Its m → messageEnds (c .session .state) (c .session .count) m ≡ true → EndsSession gone-by-count c (FrameReceived id s)
+  unfolding messageEnds
   ended-by Cim h e = absurd (false≢true e)
   ended-by (Cvm v) h e = absurd (false≢true e)
   ended-by (Cmp o) h e = absurd (false≢true e)
@@ -97,8 +98,8 @@ module _ (c : Controller) (id : ℕ) (s : List ℕ) where
   ended-by (Cst false) h e = absurd (false≢true e)
   ended-by Cem h e = ByCem h
 
-  stopped-by : (m : ChargeMessage) → Its m → false ≡ not (leavesBy m) → EndsCharge c (Came id s)
-  unfolding leavesBy
+  stopped-by : (m : ChargeMessage) → Its m → false ≡ not (messageLeaves m) → EndsCharge c (FrameReceived id s)
+  unfolding messageLeaves
   stopped-by Cim h e = absurd (false≢true e)
   stopped-by (Cvm v) h e = absurd (false≢true e)
   stopped-by (Cmp o) h e = absurd (false≢true e)
@@ -109,33 +110,33 @@ module _ (c : Controller) (id : ℕ) (s : List ℕ) where
   stopped-by Cem h e = AtCem h
 
   ended-came : (a : Answer) → Comes c id s a → isIdle (c .session .state) ≡ false → isIdle (a .controller .session .state) ≡ true
-      → EndsSession gone-by-count c (Came id s)
-  unfolding withSession messageOf appliedOf
-  ended-came a (Unmoved k n) h e = absurd (false≢true (sym h ∙ (ap (λ (t : Session). isIdle (t .state)) (sym k) ∙ e)))
+      → EndsSession gone-by-count c (FrameReceived id s)
+  unfolding sessionMoved messageOf appliedOf
+  ended-came a (Left u k n) h e = absurd (false≢true (sym h ∙ (ap (λ (t : Session). isIdle (t .state)) (sym k) ∙ e)))
   ended-came a (Took m says may k) h e =
       ended-by m (its m (partsOf id .source) (station-is c (partsOf id .source) h may) says)
       (sym (which-message-ends-a-session (c .settings) (partsOf id .source) (c .session) m h)
       ∙ (ap (λ (t : Answer). isIdle (t .controller .session .state)) (sym k) ∙ e))
 
   stopped-came : (a : Answer) → Comes c id s a → isCharging (c .session .state) ≡ true → isCharging (a .controller .session .state) ≡ false
-      → EndsCharge c (Came id s)
-  unfolding withSession messageOf appliedOf
-  stopped-came a (Unmoved k n) h e = absurd (false≢true (sym e ∙ (ap (λ (t : Session). isCharging (t .state)) k ∙ h)))
+      → EndsCharge c (FrameReceived id s)
+  unfolding sessionMoved messageOf appliedOf
+  stopped-came a (Left u k n) h e = absurd (false≢true (sym e ∙ (ap (λ (t : Session). isCharging (t .state)) k ∙ h)))
   stopped-came a (Took m says may k) h e =
       stopped-by m (its m (partsOf id .source) (station-is c (partsOf id .source) (charging-open (c .session .state) h) may) says)
       ((sym e ∙ ap (λ (t : Answer). isCharging (t .controller .session .state)) k)
       ∙ which-message-ends-a-charge (c .settings) (partsOf id .source) (c .session) m h)
 
-  its-ends : (m : ChargeMessage) → isIdle (c .session .state) ≡ false → Its m → endsBy (c .session .state) (c .session .count) m ≡ true
+  its-ends : (m : ChargeMessage) → isIdle (c .session .state) ≡ false → Its m → messageEnds (c .session .state) (c .session .count) m ≡ true
       → isIdle (frameTo c id s .controller .session .state) ≡ true
-  unfolding withSession messageOf appliedOf
+  unfolding sessionMoved messageOf appliedOf
   its-ends m h says e =
       ap (λ (t : Answer). isIdle (t .controller .session .state)) (taken-in c id s m h says)
       ∙ (which-message-ends-a-session (c .settings) (c .session .station) (c .session) m h ∙ e)
 
-  its-stops : (m : ChargeMessage) → isCharging (c .session .state) ≡ true → Its m → leavesBy m ≡ true
+  its-stops : (m : ChargeMessage) → isCharging (c .session .state) ≡ true → Its m → messageLeaves m ≡ true
       → isCharging (frameTo c id s .controller .session .state) ≡ false
-  unfolding withSession messageOf appliedOf
+  unfolding sessionMoved messageOf appliedOf
   its-stops m h says e =
       ap (λ (t : Answer). isCharging (t .controller .session .state)) (taken-in c id s m (charging-open (c .session .state) h) says)
       ∙ (which-message-ends-a-charge (c .settings) (c .session .station) (c .session) m h ∙ ap not e)
@@ -157,18 +158,18 @@ not-true true h = refl
 not-true false h = absurd (false≢true h)
 
 module _ (c : Controller) where
-  ended-event : (e : Event) → ended c ≡ false → ended (after c e) ≡ true → EndsSession (ltb 0 (c .session .count)) c e
-  unfolding ended after
-  ended-event (Came id s) h e = ended-came c id s (frameTo c id s) (came c id s) h e
-  ended-event (Beaten r v t old) h e =
+  ended-event : (e : Event) → noSession c ≡ false → noSession (after c e) ≡ true → EndsSession (ltb 0 (c .session .count)) c e
+  unfolding noSession after
+  ended-event (FrameReceived id s) h e = ended-came c id s (frameTo c id s) (came c id s) h e
+  ended-event (TickMade r v t old) h e =
       let w = sym (which-tick-ends-a-session c r v t old h) ∙ e in
       ByTick (and-left (accepts r v t old) (endsFor (whyOf (c .settings) r (cellsOf v t) (c .session))) w)
       (and-right (accepts r v t old) (endsFor (whyOf (c .settings) r (cellsOf v t) (c .session))) w)
-  ended-event (Wrote old) h e = absurd (false≢true (sym h ∙ e))
-  ended-event (Reread s) h e = ByReading (sym (read-idle (readOf s) c h) ∙ e)
+  ended-event (RecordWritten old) h e = absurd (false≢true (sym h ∙ e))
+  ended-event (RecordRead s) h e = ByReading (sym (read-idle (readOf s) c h) ∙ e)
 
-  event-ends : (e : Event) → ended c ≡ false → EndsSession (ltb 0 (c .session .count)) c e → ended (after c e) ≡ true
-  unfolding ended after endsBy
+  event-ends : (e : Event) → noSession c ≡ false → EndsSession (ltb 0 (c .session .count)) c e → noSession (after c e) ≡ true
+  unfolding noSession after messageEnds
   event-ends e h (ByCem {id = id} {s = s} says) = its-ends c id s Cem h says refl
   event-ends e h (ByCst {id = id} {s = s} says stopping gone) = its-ends c id s (Cst true) h says (rw (stopping, gone))
   event-ends e h (ByTick {r = r} {v = v} {t = t} {old = old} k w) = which-tick-ends-a-session c r v t old h ∙ rw (k, w)
@@ -177,17 +178,17 @@ module _ (c : Controller) where
   -- THE ANSWER: what ends a charge, in any state whatever
   pub what-ends-a-charge : (e : Event) → isCharging (c .session .state) ≡ true → isCharging (after c e .session .state) ≡ false → EndsCharge c e
   unfolding after
-  what-ends-a-charge (Came id s) h e = stopped-came c id s (frameTo c id s) (came c id s) h e
-  what-ends-a-charge (Beaten r v t old) h e =
+  what-ends-a-charge (FrameReceived id s) h e = stopped-came c id s (frameTo c id s) (came c id s) h e
+  what-ends-a-charge (TickMade r v t old) h e =
       let w = not-true (accepts r v t old && leavesFor (whyOf (c .settings) r (cellsOf v t) (c .session))) (sym e ∙ which-tick-ends-a-charge c r v t old h) in
       AtTick (and-left (accepts r v t old) (leavesFor (whyOf (c .settings) r (cellsOf v t) (c .session))) w)
       (and-right (accepts r v t old) (leavesFor (whyOf (c .settings) r (cellsOf v t) (c .session))) w)
-  what-ends-a-charge (Wrote old) h e = absurd (false≢true (sym e ∙ h))
-  what-ends-a-charge (Reread s) h e = AtReading (not-true (isRead (readOf s)) (sym e ∙ read-charging (readOf s) c h))
+  what-ends-a-charge (RecordWritten old) h e = absurd (false≢true (sym e ∙ h))
+  what-ends-a-charge (RecordRead s) h e = AtReading (not-true (isRead (readOf s)) (sym e ∙ read-charging (readOf s) c h))
 
   -- and each of these does
   pub each-ends-a-charge : (e : Event) → isCharging (c .session .state) ≡ true → EndsCharge c e → isCharging (after c e .session .state) ≡ false
-  unfolding after leavesBy
+  unfolding after messageLeaves
   each-ends-a-charge e h (AtCcs {id = id} {s = s} says) = its-stops c id s (Ccs false) h says refl
   each-ends-a-charge e h (AtCst {id = id} {s = s} {b = b} says) = its-stops c id s (Cst b) h says refl
   each-ends-a-charge e h (AtCem {id = id} {s = s} says) = its-stops c id s Cem h says refl
@@ -215,16 +216,17 @@ module _ (x : Settings) (es : List Event) where
   ungone g e h (ByReading k) = ByReading k
 
   -- THE ANSWER: what ends a session
-  pub what-ends-a-session : (e : Event) → ended now-in-use ≡ false → ended (after now-in-use e) ≡ true
+  pub what-ends-a-session : (e : Event) → noSession now-in-use ≡ false → noSession (after now-in-use e) ≡ true
       → EndsSession (estGone false (freshOf x) es) now-in-use e
   what-ends-a-session e h k = regone (estGone false (freshOf x) es) e (est-gone x es) (ended-event now-in-use e h k)
 
   -- and each of these does
-  pub each-ends-a-session : (e : Event) → ended now-in-use ≡ false → EndsSession (estGone false (freshOf x) es) now-in-use e
-      → ended (after now-in-use e) ≡ true
+  pub each-ends-a-session : (e : Event) → noSession now-in-use ≡ false → EndsSession (estGone false (freshOf x) es) now-in-use e
+      → noSession (after now-in-use e) ≡ true
   each-ends-a-session e h k = event-ends now-in-use e h (ungone (estGone false (freshOf x) es) e (est-gone x es) k)
 
-  -- THE INCIDENT's other form: an acknowledgement that comes in Stopping before an EST of ours has gone out is answered 11 and changes nothing
+  -- THE INCIDENT's other form: an acknowledgement that comes in Stopping before an EST of ours has gone out is answered
+  -- 11 and changes nothing
   pub early-acknowledgement : (id : ℕ) (s : List ℕ) → isStopping (now-in-use .session .state) ≡ true → estGone false (freshOf x) es ≡ false
       → Says (now-in-use .settings) (now-in-use .session .station) (Cst true) id s → frameTo now-in-use id s ≡ refused 11 now-in-use
   early-acknowledgement id s h g says =

@@ -1,5 +1,6 @@
--- "An EST has gone out since entry" (01, "Session by message", Stopping): in Stopping the count is above 0 exactly where an EST of ours is among
--- the frames sent since Stopping began, over any run from a fresh controller. Assumes nothing.
+-- "An EST has gone out since entry" (01, "Session by message", Stopping): in Stopping the count is above 0 exactly
+-- where an EST of ours is among the frames sent since Stopping began, over any run from a fresh controller. Assumes
+-- nothing.
 use Prim.Native.Nat.{ℕ, _+_}
 use native.Mathlib.Omega.{arith}
 use mathlib.Core.Path.{_≡_, refl, sym, ap, _∙_}
@@ -18,56 +19,57 @@ use Rattle.settings.specs.Read.{readOf}
 use Rattle.readings.specs.declared.Readings.{Readings}
 use Rattle.cells.specs.declared.Cells.{Cells}
 use Rattle.cells.specs.Summaries.{cellsOf}
-use Rattle.charge_messages.specs.declared.ChargeMessage.{ChargeMessage}
-use Rattle.session_states.specs.declared.states.Est.{Est}
-use Rattle.session_states.specs.declared.states.Est.the-variants.{Awaited, Fixed}
-use Rattle.session_states.specs.declared.states.State.{State}
-use Rattle.session_states.specs.declared.states.State.the-variants.{Idle, Offered, Unverified, Parameters, Ready, Charging, Stopping, Error}
-use Rattle.session_by_tick.specs.declared.Turn.{Turn}
-use Rattle.session_by_tick.specs.declared.Turn.the-variants as turn
-use Rattle.session_frames.specs.Layouts.{estFrame}
+use Rattle.states.specs.declared.Est.{Est}
+use Rattle.states.specs.declared.Est.the-variants.{Awaited, Fixed}
+use Rattle.states.specs.declared.State.{State}
+use Rattle.states.specs.declared.State.the-variants.{Idle, Offered, Unverified, Parameters, Ready, Charging, Stopping, Error}
+use Rattle.turns.specs.declared.Turn.{Turn}
+use Rattle.turns.specs.declared.Turn.the-variants as turn
+use Rattle.layouts.specs.Layouts.{estFrame}
 use Rattle.session.specs.declared.Session.{Session}
 use Rattle.session.specs.Message.{sessionAfter, appliedOf, messageOf}
 use Rattle.session.specs.Frames.{estBytes, stoppingFrames, framesIn, framesOf}
 use Rattle.session.specs.Tick.{turnedBy, turnIn, sentOf}
-use Rattle.session_paper_counts.specs.Literal.{grown, counted, literalIn, literalAdvance, literalTick}
-use Rattle.session_by_message.specs.Message.{outcomeOf}
+use Rattle.literal.specs.Literal.{grown, counted, literalIn, literalAdvance, literalTick}
+use Rattle.outcomes.specs.declared.Outcome.{Outcome}
 use Rattle.controller.specs.declared.Controller.{Controller}
 use Rattle.controller.specs.declared.Answer.{Answer}
 use Rattle.controller.specs.Start.{freshOf}
-use Rattle.controller.specs.Frame.{withSession, frameTo}
+use Rattle.controller.specs.Frame.{frameTo}
 use Rattle.controller.specs.Tick.{tickFrames, chargeFrames, broadcastFrames, cellFrames, accepted}
-use Rattle.demands.specs.Machine.{On, paperNext, seenOf, framesSeen}
-use Rattle.demands.specs.Apart.{Event, Came, Beaten, Wrote, Reread, callOf, accepts, readInto, after, afterAll}
+use Rattle.demands.specs.Machine.{Using, paperNext, seenOf, framesSeen}
+use Rattle.demands.specs.Events.{Event, FrameReceived, TickMade, RecordWritten, RecordRead, callOf, accepts, readInto, after, afterAll}
 use Rattle.demands.specs.Kinds.{isStopping}
 use Rattle.demands.specs.Gone.{holdsEst, sendsEst, goneAfter, estGone}
-use Rattle.demands.proofs.Tests.{and-false, or-left, or-right}
-use Rattle.demands.proofs.Came.{Comes, Unmoved, Took, came}
-use Rattle.demands.proofs.Messages.{mk, enters-anew, stays-stopping}
+use Rattle.demands.proofs.Tests.{or-left, or-right}
+use Rattle.demands.proofs.FrameTo.{sessionMoved}
+use Rattle.demands.proofs.Comes.{Comes, Left, Took, came}
+use Rattle.demands.proofs.Outcomes.{Leads, NotTaken, NotInStep, DoesNothing, OpensOne, ToUnverified, ToParameters, ToParametersLater, ToReady, ToReadyAgain, ToCharging, ToStopping, MarksIt, EndsIt, outcome-leads}
+use Rattle.demands.proofs.Messages.{mk}
 
 -- in Stopping, the count tells whether one has gone out
 abbrev Agrees : Bool → Session → Type 0
 Agrees gone s = isStopping (s .state) ≡ true → ltb 0 (s .count) ≡ gone
 
 -- ---- a message
-module _ (x : Settings) (source a b n : ℕ) (m : ChargeMessage) where
-  abbrev next : State → Session
-  next st = sessionAfter source (mk a b n st) (outcomeOf x st n m)
-
-  anew : (st : State) → isStopping st ≡ false → isStopping (next st .state) ≡ true → ltb 0 (next st .count) ≡ false
-  anew st f h = and-false (isStopping (next st .state)) (ltb 0 (next st .count)) h (enters-anew x source a b n st m f)
-
-  -- after a message the count of Stopping is above 0 only if it was before
-  stopping-next : (st : State) → isStopping (next st .state) ≡ true → ltb 0 (next st .count) ≡ (isStopping st && ltb 0 n)
-  unfolding isStopping
-  stopping-next Idle h = anew Idle refl h
-  stopping-next Offered h = anew Offered refl h
-  stopping-next Unverified h = anew Unverified refl h
-  stopping-next Parameters h = anew Parameters refl h
-  stopping-next (Ready y most) h = anew (Ready y most) refl h
-  stopping-next (Charging p) h = anew (Charging p) refl h
-  stopping-next (Stopping k e) h = ap (ltb 0) (stays-stopping x source a b n k e m h)
-  stopping-next Error h = anew Error refl h
+-- after it the count of Stopping is above 0 only if it was before
+module _ (x : Settings) (source a b n : ℕ) where
+  stopping-next : (st : State) (o : Outcome) → Leads x n st o → isStopping (sessionAfter source (mk a b n st) o .state) ≡ true
+      → ltb 0 (sessionAfter source (mk a b n st) o .count) ≡ (isStopping st && ltb 0 n)
+  unfolding isStopping sessionAfter
+  stopping-next st o NotTaken h = rw h
+  stopping-next st o NotInStep h = rw h
+  stopping-next st o DoesNothing h = rw h
+  stopping-next st o OpensOne h = absurd (false≢true h)
+  stopping-next st o (ToUnverified g) h = absurd (false≢true h)
+  stopping-next st o (ToParameters g) h = absurd (false≢true h)
+  stopping-next st o ToParametersLater h = absurd (false≢true h)
+  stopping-next st o (ToReady g) h = absurd (false≢true h)
+  stopping-next st o ToReadyAgain h = absurd (false≢true h)
+  stopping-next st o (ToCharging g) h = absurd (false≢true h)
+  stopping-next st o (ToStopping f) h = rw f
+  stopping-next st o MarksIt h = refl
+  stopping-next st o EndsIt h = absurd (false≢true h)
 
 -- what goes on without a frame of ours
 goes-on : (gone g st n : Bool) → (st ≡ true → n ≡ gone) → g ≡ (st && n) → g ≡ (true && ((st && gone) || false))
@@ -100,12 +102,13 @@ module _ (gone : Bool) (c : Controller) (h : Agrees gone (c .session)) where
 
   frame-agrees : (id : ℕ) (l : List ℕ) (a : Answer) → Comes c id l a
       → Agrees (isStopping (a .controller .session .state) && ((isStopping (c .session .state) && gone) || false)) (a .controller .session)
-  unfolding withSession messageOf appliedOf
-  frame-agrees id l a (Unmoved k n) = on-as-it-was (a .controller .session) k
+  unfolding sessionMoved messageOf appliedOf
+  frame-agrees id l a (Left u k n) = on-as-it-was (a .controller .session) k
   frame-agrees id l a (Took m says may k) =
       on-without (a .controller .session)
       (λ p. ap (λ (z : Answer). ltb 0 (z .controller .session .count)) k
-      ∙ stopping-next (c .settings) (partsOf id .source) (c .session .station) (c .session .silence) (c .session .count) m (c .session .state)
+      ∙ stopping-next (c .settings) (partsOf id .source) (c .session .station) (c .session .silence) (c .session .count) (c .session .state) _
+      (outcome-leads (c .settings) (c .session .count) (c .session .state) m)
       (ap (λ (z : Answer). isStopping (z .controller .session .state)) (sym k) ∙ p))
 
 -- ---- a tick
@@ -152,11 +155,11 @@ module _ (c : Controller) (r : Readings) (k : Cells) (rest : List Frame) where
   tick-sends h = turn-sends (turnIn (c .settings) r k (c .session)) h
 
 module _ (gone : Bool) (c : Controller) (h : Agrees gone (c .session)) (r : Readings) (v : List ℕ) (t : List ℤ) (old : List ℕ) where
-  accepted-frames : accepts r v t old ≡ true → framesSeen (seenOf paperNext (On c) (callOf (Beaten r v t old))) ≡ tickFrames c r v t
+  accepted-frames : accepts r v t old ≡ true → framesSeen (seenOf paperNext (Using c) (callOf (TickMade r v t old))) ≡ tickFrames c r v t
   unfolding seenOf framesSeen accepts accepted
   accepted-frames e = rw e
 
-  refused-frames : accepts r v t old ≡ false → framesSeen (seenOf paperNext (On c) (callOf (Beaten r v t old))) ≡ []
+  refused-frames : accepts r v t old ≡ false → framesSeen (seenOf paperNext (Using c) (callOf (TickMade r v t old))) ≡ []
   unfolding seenOf framesSeen accepts accepted
   refused-frames e = rw e
 
@@ -164,21 +167,21 @@ module _ (gone : Bool) (c : Controller) (h : Agrees gone (c .session)) (r : Read
   others = broadcastFrames c r v t ++ cellFrames c r v t
 
   taken-agrees : accepts r v t old ≡ true
-      → Agrees (isStopping (paperNext c r v t .session .state) && ((isStopping (c .session .state) && gone) || sendsEst c (Beaten r v t old)))
+      → Agrees (isStopping (paperNext c r v t .session .state) && ((isStopping (c .session .state) && gone) || sendsEst c (TickMade r v t old)))
       (paperNext c r v t .session)
   unfolding sendsEst paperNext tickFrames chargeFrames
   taken-agrees e p =
       let d = tick-sends c r (cellsOf v t) others p in
       d .count
-      ∙ sym (rw p (or-right (isStopping (c .session .state) && gone) (sendsEst c (Beaten r v t old)) (ap (holdsEst c) (accepted-frames e) ∙ d .est)))
+      ∙ sym (rw p (or-right (isStopping (c .session .state) && gone) (sendsEst c (TickMade r v t old)) (ap (holdsEst c) (accepted-frames e) ∙ d .est)))
 
   refused-agrees : accepts r v t old ≡ false
-      → Agrees (isStopping (c .session .state) && ((isStopping (c .session .state) && gone) || sendsEst c (Beaten r v t old))) (c .session)
+      → Agrees (isStopping (c .session .state) && ((isStopping (c .session .state) && gone) || sendsEst c (TickMade r v t old))) (c .session)
   unfolding sendsEst holdsEst
   refused-agrees e = rw (refused-frames e) (on-as-it-was gone c h (c .session) refl)
 
   tick-agrees : (f : Bool) → accepts r v t old ≡ f
-      → Agrees (isStopping (cond f (paperNext c r v t) c .session .state) && ((isStopping (c .session .state) && gone) || sendsEst c (Beaten r v t old)))
+      → Agrees (isStopping (cond f (paperNext c r v t) c .session .state) && ((isStopping (c .session .state) && gone) || sendsEst c (TickMade r v t old)))
       (cond f (paperNext c r v t) c .session)
   tick-agrees true e = taken-agrees e
   tick-agrees false e = refused-agrees e
@@ -192,10 +195,10 @@ read-agrees gone c h (read.Refused n) e = on-as-it-was gone c h (c .session) ref
 
 event-agrees : (gone : Bool) (c : Controller) (e : Event) → Agrees gone (c .session) → Agrees (goneAfter gone c e) (after c e .session)
 unfolding goneAfter sendsEst seenOf framesSeen holdsEst after
-event-agrees gone c (Came id s) h = frame-agrees gone c h id s (frameTo c id s) (came c id s)
-event-agrees gone c (Beaten r v t old) h = tick-agrees gone c h r v t old (accepts r v t old) refl
-event-agrees gone c (Wrote old) h = on-as-it-was gone c h (c .session) refl
-event-agrees gone c (Reread s) h = read-agrees gone c h (readOf s)
+event-agrees gone c (FrameReceived id s) h = frame-agrees gone c h id s (frameTo c id s) (came c id s)
+event-agrees gone c (TickMade r v t old) h = tick-agrees gone c h r v t old (accepts r v t old) refl
+event-agrees gone c (RecordWritten old) h = on-as-it-was gone c h (c .session) refl
+event-agrees gone c (RecordRead s) h = read-agrees gone c h (readOf s)
 
 run-agrees : (gone : Bool) (c : Controller) (es : List Event) → Agrees gone (c .session) → Agrees (estGone gone c es) (afterAll c es .session)
 unfolding estGone afterAll

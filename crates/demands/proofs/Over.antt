@@ -1,6 +1,6 @@
--- What a frame means once its session is over: in Idle, whoever sends it and whatever it holds, it is a well-formed CIM from a listed station
--- and opens a session with that station, or it leaves the session as it was; and a charge message that is no such CIM is refused by
--- number. And each such CIM opens one. Assumes nothing.
+-- What a frame means once its session is over: in Idle, whoever sends it and whatever it holds, it is a well-formed CIM
+-- from a listed station and opens a session with that station, or it leaves the session as it was; and a charge message
+-- that is no such CIM is refused by number. And each such CIM opens one. Assumes nothing.
 use Prim.Native.Nat.{ℕ}
 use mathlib.Core.Logic.{_⊎_, inl, inr}
 use mathlib.Core.Path.{_≡_, refl, ap, _∙_}
@@ -11,18 +11,19 @@ use lib.Dec.{eqb}
 use Rattle.messages.specs.Identifier.{partsOf}
 use Rattle.charge_messages.specs.declared.ChargeMessage.{ChargeMessage}
 use Rattle.charge_messages.specs.declared.ChargeMessage.the-variants.{Cim, Cvm, Cmp, Crm, Ccs, Cst, Cem}
-use Rattle.session_states.specs.declared.states.State.the-variants.{Idle}
-use Rattle.session_by_message.specs.declared.Outcome.the-variants.{Refuse}
-use Rattle.session_by_message.specs.Message.{outcomeOf, inIdle}
+use Rattle.states.specs.declared.State.the-variants.{Idle}
+use Rattle.outcomes.specs.declared.Outcome.the-variants.{Refuse}
+use Rattle.outcomes.specs.Message.{outcomeOf, inIdle}
 use Rattle.session.specs.Message.{sessionAfter, appliedOf, messageOf}
 use Rattle.controller.specs.declared.Controller.{Controller}
 use Rattle.controller.specs.declared.Answer.{Answer}
 use Rattle.refusals.specs.Frame.{isIdle, listed}
-use Rattle.controller.specs.Frame.{refused, mayCharge, withSession, frameTo}
+use Rattle.controller.specs.Frame.{refused, mayCharge, frameTo}
 use Rattle.demands.specs.Says.{Says}
 use Rattle.demands.specs.Over.{openedWith, Opens, Ignored}
 use Rattle.demands.proofs.Tests.{first}
-use Rattle.demands.proofs.Came.{Comes, Unmoved, Took, came, says-taken, says-refused}
+use Rattle.demands.proofs.FrameTo.{sessionMoved}
+use Rattle.demands.proofs.Comes.{Comes, Left, Took, came, says-taken, says-refused}
 
 -- in Idle the list decides
 listed-is : (c : Controller) (source : ℕ) → c .session .state ≡ Idle → mayCharge c source ≡ true → listed source (c .settings .stations) ≡ true
@@ -32,29 +33,29 @@ listed-is c source h e =
 
 module _ (c : Controller) (id : ℕ) (s : List ℕ) (h : c .session .state ≡ Idle) where
   abbrev taken : ChargeMessage → Answer
-  taken m = withSession c (messageOf (c .settings) (partsOf id .source) (c .session) m)
+  taken m = sessionMoved c (messageOf (c .settings) (partsOf id .source) (c .session) m)
 
   opened : taken Cim .controller .session ≡ openedWith (partsOf id .source)
-  unfolding withSession messageOf appliedOf outcomeOf inIdle sessionAfter
+  unfolding sessionMoved messageOf appliedOf outcomeOf inIdle sessionAfter
   opened = rw h
 
   opened-0 : taken Cim .number ≡ 0
-  unfolding withSession messageOf appliedOf outcomeOf inIdle
+  unfolding sessionMoved messageOf appliedOf outcomeOf inIdle
   opened-0 = rw h
 
   kept : (m : ChargeMessage) → inIdle m ≡ Refuse → taken m .controller .session ≡ c .session
-  unfolding withSession messageOf appliedOf outcomeOf sessionAfter
+  unfolding sessionMoved messageOf appliedOf outcomeOf sessionAfter
   kept m e = rw (h, e)
 
   kept-11 : (m : ChargeMessage) → inIdle m ≡ Refuse → taken m .number ≡ 11
-  unfolding withSession messageOf appliedOf outcomeOf
+  unfolding sessionMoved messageOf appliedOf outcomeOf
   kept-11 m e = rw (h, e)
 
   ignored : (m : ChargeMessage) → frameTo c id s ≡ taken m → inIdle m ≡ Refuse → Ignored c id s
   ignored m k e =
       record {
         session = ap (λ (a : Answer). a .controller .session) k ∙ kept m e;
-        number = λ n r z. let t : frameTo c id s .number ≡ 11 = ap (λ (a : Answer). a .number) k ∙ kept-11 m e in omega (arith, z, t);
+        number = λ f z. let t : frameTo c id s .number ≡ 11 = ap (λ (a : Answer). a .number) k ∙ kept-11 m e in omega (arith, z, t);
       }
 
   by-message : (m : ChargeMessage) → Says (c .settings) (partsOf id .source) m id s → mayCharge c (partsOf id .source) ≡ true → frameTo c id s ≡ taken m
@@ -75,7 +76,7 @@ module _ (c : Controller) (id : ℕ) (s : List ℕ) (h : c .session .state ≡ I
   by-message Cem says may k = inr (ignored Cem k refl)
 
   by-came : Comes c id s (frameTo c id s) → Opens c id s ⊎ Ignored c id s
-  by-came (Unmoved k n) = inr (record { session = k; number = n })
+  by-came (Left u k n) = inr (record { session = k; number = λ e. n e .number })
   by-came (Took m says may k) = by-message m says may k
 
   -- every frame in Idle
@@ -97,10 +98,11 @@ module _ (c : Controller) (id : ℕ) (s : List ℕ) (h : c .session .state ≡ I
         session = ap (λ (a : Answer). a .controller .session) k ∙ opened;
       }
 
-  -- what else a source says, it says in vain: 11 where it is a listed station, 9 where it is not, and nothing is changed
+  -- what else a source says, it says in vain: 11 where it is a listed station, 9 where it is not, and nothing is
+  -- changed
   module _ (source : ℕ) (m : ChargeMessage) (says : Says (c .settings) source m id s) (refuses : inIdle m ≡ Refuse) where
-    refused-11 : withSession c (messageOf (c .settings) source (c .session) m) ≡ refused 11 c
-    unfolding withSession messageOf appliedOf outcomeOf sessionAfter
+    refused-11 : sessionMoved c (messageOf (c .settings) source (c .session) m) ≡ refused 11 c
+    unfolding sessionMoved messageOf appliedOf outcomeOf sessionAfter
     refused-11 = rw (h, refuses)
 
     in-vain : (l : Bool) → listed source (c .settings .stations) ≡ l → frameTo c id s ≡ refused (cond l 11 9) c

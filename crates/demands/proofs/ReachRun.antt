@@ -1,9 +1,9 @@
--- That a station can follow the handshake: frames of the station 56 to us, F4, and two runs of which `from-cim-to-charging` says that they come to
--- Charging: one of eight accepted ticks and no more than it takes, and one in which the station repeats itself and others send in between. Assumes
--- nothing.
+-- That a station can follow the handshake: frames of the station 56 to us, F4, and two runs of which
+-- `from-cim-to-charging` says that they come to Charging: one of eight accepted ticks and no more than it takes, and
+-- one in which the station repeats itself and others send in between. Assumes nothing.
 use Prim.Native.Nat.{ℕ, _+_, _<_}
 use native.Mathlib.Omega.{arith}
-use mathlib.Core.Path.{_≡_, refl, sym}
+use mathlib.Core.Path.{_≡_, refl, ap}
 use mathlib.Core.Bool.{true, false, false≢true}
 use mathlib.Core.List.{List, [], _∷_}
 use lib.IntN.{pos}
@@ -13,11 +13,14 @@ use Rattle.settings.specs.Range.{within, goodStations, inRange}
 use Rattle.charge_messages.specs.declared.Offer.{Offer}
 use Rattle.charge_messages.specs.declared.ChargeMessage.the-variants.{Cim, Cvm, Cmp, Crm}
 use Rattle.charge_messages.specs.Content.{contentOf}
-use Rattle.session_by_message.specs.Offer.{acceptedOf}
+use Rattle.outcomes.specs.Offer.{acceptedOf}
 use Rattle.controller.specs.Start.{freshOf}
 use Rattle.refusals.specs.Frame.{notCan, flagsSet, notForUs, badSource, listed}
-use Rattle.demands.specs.Apart.{Event, Came, Beaten, afterAll, isQuery, queryIn, fromStation, reaches, heard}
-use Rattle.demands.specs.Silent.{ticked, ticksIn}
+use Rattle.demands.specs.Limits.{silenceLimit}
+use Rattle.demands.specs.Events.{chargeIn, Event, FrameReceived, TickMade, afterAll, isQuery, queryIn}
+use Rattle.demands.specs.Apart.{fromStation, reaches, reaching}
+use Rattle.demands.specs.Silent.{isAcceptedTick, ticksIn}
+use Rattle.demands.specs.Checks.{longEnough, messageIn}
 use Rattle.demands.specs.Says.{Says}
 use Rattle.demands.specs.Reach.{chargingWith, Stretch, UntilCvm, UntilVerified, UntilCmp, UntilCrm, besides}
 use Rattle.demands.specs.Reach.{Passing, Follows, Passes, Ticks, Speaks, Delays, VerifiesLater, Verifies, Offers, Starts}
@@ -71,106 +74,103 @@ unfolding listed
 is-listed = refl
 
 -- ---- the frames say what they are to say
+record AllSay : Type 0 where
+  cim : Says ours 0x56 Cim 0x1826_f456 cimData
+  cvm-00 : Says ours 0x56 (Cvm false) 0x1801_f456 (0x00 ∷ [])
+  cvm-aa : Says ours 0x56 (Cvm true) 0x1801_f456 (0xaa ∷ [])
+  cmp : Says ours 0x56 (Cmp offer) 0x1808_f456 cmpData
+  low : Says ours 0x56 (Cmp lowOffer) 0x1808_f456 lowData
+  crm-ff : Says ours 0x56 (Crm false) 0x180a_f456 (0xff ∷ [])
+  crm-aa : Says ours 0x56 (Crm true) 0x180a_f456 (0xaa ∷ [])
+
+all-say : AllSay
+unfolding messageIn longEnough notCan flagsSet notForUs badSource partsOf contentOf
+all-say =
+    record {
+      cim = record { checks = refl; source = refl; content = refl };
+      cvm-00 = record { checks = refl; source = refl; content = refl };
+      cvm-aa = record { checks = refl; source = refl; content = refl };
+      cmp = record { checks = refl; source = refl; content = refl };
+      low = record { checks = refl; source = refl; content = refl };
+      crm-ff = record { checks = refl; source = refl; content = refl };
+      crm-aa = record { checks = refl; source = refl; content = refl };
+    }
+
 pub says-cim : Says ours 0x56 Cim 0x1826_f456 cimData
-unfolding notCan flagsSet notForUs badSource partsOf contentOf
-says-cim = record { can = refl; flags = refl; target = refl; other = refl; source = refl; pf = refl; long = refl; content = refl }
-
-says-cvm-00 : Says ours 0x56 (Cvm false) 0x1801_f456 (0x00 ∷ [])
-unfolding notCan flagsSet notForUs badSource partsOf contentOf
-says-cvm-00 = record { can = refl; flags = refl; target = refl; other = refl; source = refl; pf = refl; long = refl; content = refl }
-
-says-cvm-aa : Says ours 0x56 (Cvm true) 0x1801_f456 (0xaa ∷ [])
-unfolding notCan flagsSet notForUs badSource partsOf contentOf
-says-cvm-aa = record { can = refl; flags = refl; target = refl; other = refl; source = refl; pf = refl; long = refl; content = refl }
-
-says-cmp : Says ours 0x56 (Cmp offer) 0x1808_f456 cmpData
-unfolding notCan flagsSet notForUs badSource partsOf contentOf
-says-cmp = record { can = refl; flags = refl; target = refl; other = refl; source = refl; pf = refl; long = refl; content = refl }
-
-says-low : Says ours 0x56 (Cmp lowOffer) 0x1808_f456 lowData
-unfolding notCan flagsSet notForUs badSource partsOf contentOf
-says-low = record { can = refl; flags = refl; target = refl; other = refl; source = refl; pf = refl; long = refl; content = refl }
-
-says-crm-ff : Says ours 0x56 (Crm false) 0x180a_f456 (0xff ∷ [])
-unfolding notCan flagsSet notForUs badSource partsOf contentOf
-says-crm-ff = record { can = refl; flags = refl; target = refl; other = refl; source = refl; pf = refl; long = refl; content = refl }
-
-says-crm-aa : Says ours 0x56 (Crm true) 0x180a_f456 (0xaa ∷ [])
-unfolding notCan flagsSet notForUs badSource partsOf contentOf
-says-crm-aa = record { can = refl; flags = refl; target = refl; other = refl; source = refl; pf = refl; long = refl; content = refl }
+says-cim = all-say .cim
 
 -- ---- the events
 abbrev cim : Event
-cim = Came 0x1826_f456 cimData
+cim = FrameReceived 0x1826_f456 cimData
 
 abbrev cvm-aa : Event
-cvm-aa = Came 0x1801_f456 (0xaa ∷ [])
+cvm-aa = FrameReceived 0x1801_f456 (0xaa ∷ [])
 
 abbrev cvm-00 : Event
-cvm-00 = Came 0x1801_f456 (0x00 ∷ [])
+cvm-00 = FrameReceived 0x1801_f456 (0x00 ∷ [])
 
 abbrev cmp : Event
-cmp = Came 0x1808_f456 cmpData
+cmp = FrameReceived 0x1808_f456 cmpData
 
 abbrev low-cmp : Event
-low-cmp = Came 0x1808_f456 lowData
+low-cmp = FrameReceived 0x1808_f456 lowData
 
 abbrev crm-ff : Event
-crm-ff = Came 0x180a_f456 (0xff ∷ [])
+crm-ff = FrameReceived 0x180a_f456 (0xff ∷ [])
 
 abbrev crm-aa : Event
-crm-aa = Came 0x180a_f456 (0xaa ∷ [])
+crm-aa = FrameReceived 0x180a_f456 (0xaa ∷ [])
 
 abbrev tick : Event
-tick = Beaten quietReadings (330 ∷ []) (pos 20 ∷ []) (zeros 117)
+tick = TickMade quietReadings (330 ∷ []) (pos 20 ∷ []) (zeros 117)
 
 -- after the CIM that opened the session: eight ticks
 pub eight : List Event
 eight = tick ∷ cvm-aa ∷ tick ∷ tick ∷ tick ∷ tick ∷ tick ∷ tick ∷ cmp ∷ tick ∷ crm-aa ∷ []
 
-on : (k : Stretch) (n b : ℕ) (es : List Event) → b < 200 → Follows ours 0x56 offer k (n + 1) (b + 1) es → Follows ours 0x56 offer k n b (tick ∷ es)
+on : (k : Stretch) (n b : ℕ) (es : List Event) → b < silenceLimit → Follows ours 0x56 offer k (n + 1) (b + 1) es → Follows ours 0x56 offer k n b (tick ∷ es)
 on k n b es l f = Ticks {b = b} (such-a-tick .0) (such-a-tick .1) (omega (arith, l)) f
 
-follows-eight : Follows ours 0x56 offer UntilCvm 0 0 (heard 0x56 eight)
-unfolding eight heard reaches fromStation isQuery queryIn partsOf
+follows-eight : Follows ours 0x56 offer UntilCvm 0 0 (reaching 0x56 eight)
+unfolding eight reaching reaches fromStation isQuery queryIn partsOf
 follows-eight =
     on UntilCvm 0 0 _ (omega arith)
-    (Verifies says-cvm-aa (omega arith)
+    (Verifies (all-say .cvm-aa) (omega arith)
     (on UntilCmp 0 0 _ (omega arith)
     (on UntilCmp 1 1 _ (omega arith)
     (on UntilCmp 2 2 _ (omega arith)
     (on UntilCmp 3 3 _ (omega arith)
     (on UntilCmp 4 4 _ (omega arith)
     (on UntilCmp 5 5 _ (omega arith)
-    (Offers says-cmp yes-rule (omega arith) (on UntilCrm 0 0 _ (omega arith) (Starts says-crm-aa (omega arith)))))))))))
+    (Offers (all-say .cmp) yes-rule (omega arith) (on UntilCrm 0 0 _ (omega arith) (Starts (all-say .crm-aa) (omega arith)))))))))))
 
 -- from a fresh controller, by the CIM and what follows
-charges : (es : List Event) → Follows ours 0x56 offer UntilCvm 0 0 (heard 0x56 es)
+charges : (es : List Event) → Follows ours 0x56 offer UntilCvm 0 0 (reaching 0x56 es)
     → afterAll (freshOf ours) (cim ∷ es) .session ≡ chargingWith ours 0x56 offer
 unfolding freshOf
 charges es f = from-cim-to-charging (freshOf ours) 0x56 0x1826_f456 cimData offer es refl is-listed says-cim f
 
 -- eight accepted ticks are enough, and fewer never are (`no-sooner`, proofs/ReachLeast.antt)
 pub eight-are-enough : (ticksIn (cim ∷ eight) ≡ 8) × (afterAll (freshOf ours) (cim ∷ eight) .session ≡ chargingWith ours 0x56 offer)
-unfolding eight ticksIn ticked
+unfolding eight ticksIn isAcceptedTick
 eight-are-enough = (rw (such-a-tick .0), charges eight follows-eight)
 
 -- ---- a station that repeats itself, and others on the bus
 -- another listed station's CIM and CEM; the station's own cell query, and its CST to another address, 55
 abbrev cim-57 : Event
-cim-57 = Came 0x1826_f457 cimData
+cim-57 = FrameReceived 0x1826_f457 cimData
 
 abbrev cem-57 : Event
-cem-57 = Came 0x181f_f457 (0x00 ∷ 0x00 ∷ 0xaa ∷ [])
+cem-57 = FrameReceived 0x181f_f457 (0x00 ∷ 0x00 ∷ 0xaa ∷ [])
 
 abbrev query : Event
-query = Came 0x181b_f456 (zeros 8)
+query = FrameReceived 0x181b_f456 (zeros 8)
 
 abbrev cst-to-55 : Event
-cst-to-55 = Came 0x1816_5556 (0x00 ∷ 0x00 ∷ 0xaa ∷ [])
+cst-to-55 = FrameReceived 0x1816_5556 (0x00 ∷ 0x00 ∷ 0xaa ∷ [])
 
--- from the opening CIM on: a CVM AA before any EIM; CVM 00, and 00 again before AA; CRM AA and CMP before their time; a CMP that the yes rule does
--- not accept; then the last CMP, CRM AA before its ERM, CRM FF, and the CRM AA that counts
+-- from the opening CIM on: a CVM AA before any EIM; CVM 00, and 00 again before AA; CRM AA and CMP before their time; a
+-- CMP that the yes rule does not accept; then the last CMP, CRM AA before its ERM, CRM FF, and the CRM AA that counts
 pub busy : List Event
 busy =
     cvm-aa ∷ cim-57 ∷ cim ∷ tick ∷ cem-57
@@ -184,42 +184,42 @@ unfolding Passing
 cim-passes m h = says-one ours 0x56 m Cim 0x1826_f456 cimData h says-cim
 
 cst-passes : Passing ours 0x56 cst-to-55
-unfolding Passing notForUs partsOf
-cst-passes m h = absurd (false≢true (sym (h .target)))
+unfolding Passing messageIn notCan flagsSet notForUs partsOf chargeIn
+cst-passes m h = absurd (false≢true (ap chargeIn (h .checks)))
 
--- what the session hears of it
+-- what of it reaches the session
 follows-crm : Follows ours 0x56 offer UntilCrm 0 0 (crm-aa ∷ tick ∷ crm-ff ∷ cst-to-55 ∷ tick ∷ crm-aa ∷ [])
 unfolding besides
 follows-crm =
-    Speaks says-crm-aa refl
+    Speaks (all-say .crm-aa) refl
     (on UntilCrm 0 0 _ (omega arith)
-    (Speaks says-crm-ff refl (Passes cst-passes (on UntilCrm 1 0 _ (omega arith) (Starts says-crm-aa (omega arith))))))
+    (Speaks (all-say .crm-ff) refl (Passes cst-passes (on UntilCrm 1 0 _ (omega arith) (Starts (all-say .crm-aa) (omega arith))))))
 
 follows-cmp : Follows ours 0x56 offer UntilCmp 0 0
     (crm-aa ∷ cmp ∷ cvm-aa ∷ tick ∷ tick ∷ tick ∷ tick ∷ tick ∷ tick ∷ low-cmp ∷ tick ∷ crm-ff
     ∷ cmp ∷ crm-aa ∷ tick ∷ crm-ff ∷ cst-to-55 ∷ tick ∷ crm-aa ∷ [])
 unfolding besides
 follows-cmp =
-    Speaks says-crm-aa refl
-    (Speaks says-cmp refl
-    (Speaks says-cvm-aa refl
+    Speaks (all-say .crm-aa) refl
+    (Speaks (all-say .cmp) refl
+    (Speaks (all-say .cvm-aa) refl
     (on UntilCmp 0 0 _ (omega arith)
     (on UntilCmp 1 1 _ (omega arith)
     (on UntilCmp 2 2 _ (omega arith)
     (on UntilCmp 3 3 _ (omega arith)
     (on UntilCmp 4 4 _ (omega arith)
     (on UntilCmp 5 5 _ (omega arith)
-    (Speaks says-low refl
-    (on UntilCmp 6 0 _ (omega arith) (Speaks says-crm-ff refl (Offers says-cmp yes-rule (omega arith) follows-crm))))))))))))
+    (Speaks (all-say .low) refl
+    (on UntilCmp 6 0 _ (omega arith) (Speaks (all-say .crm-ff) refl (Offers (all-say .cmp) yes-rule (omega arith) follows-crm))))))))))))
 
-follows-busy : Follows ours 0x56 offer UntilCvm 0 0 (heard 0x56 busy)
-unfolding busy heard reaches fromStation isQuery queryIn partsOf besides
+follows-busy : Follows ours 0x56 offer UntilCvm 0 0 (reaching 0x56 busy)
+unfolding busy reaching reaches fromStation isQuery queryIn partsOf besides
 follows-busy =
-    Speaks says-cvm-aa refl
+    Speaks (all-say .cvm-aa) refl
     (Speaks says-cim refl
     (on UntilCvm 0 0 _ (omega arith)
-    (Delays says-cvm-00 (omega arith)
-    (Passes cim-passes (on UntilVerified 0 0 _ (omega arith) (Speaks says-cvm-00 refl (VerifiesLater says-cvm-aa follows-cmp)))))))
+    (Delays (all-say .cvm-00) (omega arith)
+    (Passes cim-passes (on UntilVerified 0 0 _ (omega arith) (Speaks (all-say .cvm-00) refl (VerifiesLater (all-say .cvm-aa) follows-cmp)))))))
 
 -- Charging all the same
 pub busy-charges : afterAll (freshOf ours) (cim ∷ busy) .session ≡ chargingWith ours 0x56 offer

@@ -1,5 +1,5 @@
--- A session in a stretch of the handshake (specs/Reach.antt): where it may be, and what the station's messages and a tick make of it. Assumes
--- nothing.
+-- A session in a stretch of the handshake (specs/Reach.antt): where it may be, and what the station's messages and a
+-- tick make of it. Assumes nothing.
 use Prim.Native.Nat.{ℕ, _+_, _≤_}
 use native.Mathlib.Omega.{arith}
 use mathlib.Core.Path.{_≡_, refl}
@@ -13,31 +13,31 @@ use Rattle.cells.specs.declared.Cells.{Cells}
 use Rattle.charge_messages.specs.declared.Offer.{Offer}
 use Rattle.charge_messages.specs.declared.ChargeMessage.{ChargeMessage}
 use Rattle.charge_messages.specs.declared.ChargeMessage.the-variants.{Cim, Cvm, Cmp, Crm, Ccs, Cst, Cem}
-use Rattle.session_states.specs.Phases.{startPhase}
-use Rattle.session_states.specs.declared.states.State.{State}
-use Rattle.session_states.specs.declared.states.State.the-variants.{Offered, Unverified, Parameters, Ready, Charging}
-use Rattle.session_by_message.specs.declared.Outcome.{Outcome}
-use Rattle.session_by_message.specs.declared.Outcome.the-variants.{OutOfStep, Heard, Enter}
-use Rattle.session_by_message.specs.Offer.{acceptedOf, stationMost}
-use Rattle.session_by_message.specs.Message.{outcomeOf, inOffered, inUnverified, inParameters, inReady, readyOf, crmOf}
-use Rattle.session_by_tick.specs.Turns.{waitingOf, turnOf}
+use Rattle.phases.specs.Phases.{startPhase}
+use Rattle.states.specs.declared.State.{State}
+use Rattle.states.specs.declared.State.the-variants.{Offered, Unverified, Parameters, Ready, Charging}
+use Rattle.outcomes.specs.declared.Outcome.{Outcome}
+use Rattle.outcomes.specs.declared.Outcome.the-variants.{OutOfStep, Heard, Enter}
+use Rattle.outcomes.specs.Offer.{acceptedOf, stationMost}
+use Rattle.outcomes.specs.Message.{outcomeOf, inOffered, inUnverified, inParameters, inReady, readyOf, crmOf}
+use Rattle.turns.specs.Turns.{waitingOf, turnOf}
 use Rattle.session.specs.declared.Session.{Session}
 use Rattle.session.specs.Message.{sessionAfter}
 use Rattle.session.specs.Tick.{turnedBy, turnIn}
-use Rattle.session_paper_counts.specs.Literal.{grown, literalIn, literalAdvance, literalTick}
+use Rattle.literal.specs.Literal.{grown, literalIn, literalAdvance, literalTick}
 use Rattle.refusals.specs.Frame.{isIdle}
+use Rattle.demands.specs.Limits.{silenceLimit, firstEcp}
 use Rattle.demands.specs.Reach.{chargingWith, Stretch, UntilCvm, UntilVerified, UntilCmp, UntilCrm, besides}
+use Rattle.demands.proofs.Messages.{mk}
 
-abbrev pub mk : ℕ → ℕ → ℕ → State → Session
-mk a b n st = record { station = a; silence = b; count = n; state = st }
-
--- ---- where a session may be, `n` ticks into a stretch: a state and its count. Until its last CMP the station may have sent others, so that the
+-- ---- where a session may be
+-- `n` ticks into a stretch: a state and its count. Until its last CMP the station may have sent others, so that the
 -- session is in Ready
 pub data At (o : Offer) : Stretch → ℕ → State → ℕ → Type 0 where
   AtOffered : {n : ℕ} → At o UntilCvm n Offered n
   AtUnverified : {n : ℕ} → At o UntilVerified n Unverified n
   AtParameters : {n : ℕ} → At o UntilCmp n Parameters n
-  AtReady : {n m most : ℕ} {accepted : Bool} → 6 ≤ n → At o UntilCmp n (Ready accepted most) m
+  AtReady : {n m most : ℕ} {accepted : Bool} → firstEcp + 1 ≤ n → At o UntilCmp n (Ready accepted most) m
   AtLast : {n : ℕ} → At o UntilCrm n (Ready true (stationMost o)) n
 
 pub at-next : (o : Offer) (k : Stretch) (n m : ℕ) (st : State) → At o k n st m → At o k (n + 1) st (m + 1)
@@ -57,7 +57,7 @@ at-open o k n m st AtLast = refl
 
 -- a tick that wants charge
 pub at-tick : (o : Offer) (k : Stretch) (n m : ℕ) (st : State) → At o k n st m → (x : Settings) (r : Readings) (c : Cells) (a b : ℕ)
-    → leb 200 b ≡ false → wantedOf r ≡ true → literalTick x r c (mk a b m st) ≡ mk a (b + 1) (m + 1) st
+    → leb silenceLimit b ≡ false → wantedOf r ≡ true → literalTick x r c (mk a b m st) ≡ mk a (b + 1) (m + 1) st
 unfolding literalTick literalAdvance literalIn grown turnedBy turnIn turnOf waitingOf
 at-tick o k n m st AtOffered x r c a b h w = rw (h, w)
 at-tick o k n m st AtUnverified x r c a b h w = rw (h, w)
@@ -71,7 +71,7 @@ not-both true e h = h
 not-both false e h = e
 
 module _ (x : Settings) (a : ℕ) (o : Offer) where
-  -- ---- a message besides: the session is in the stretch, and its station was heard just now
+  -- ---- a message besides: the session is in the stretch, and its station was heeded just now
   pub record Word (k : Stretch) (n : ℕ) (z : Session) : Type 0 where
     pub state : State
     pub count : ℕ
@@ -124,16 +124,16 @@ module _ (x : Settings) (a : ℕ) (o : Offer) where
     cvm-parameters n true = stays-heard UntilCmp n n Parameters AtParameters
     cvm-parameters n false = stays-out UntilCmp n n Parameters AtParameters
 
-    cmp-parameters : (n : ℕ) (p : Offer) (g : Bool) → ltb 5 n ≡ g → Word UntilCmp n (comes n Parameters (cond g (readyOf x p) OutOfStep))
+    cmp-parameters : (n : ℕ) (p : Offer) (g : Bool) → ltb firstEcp n ≡ g → Word UntilCmp n (comes n Parameters (cond g (readyOf x p) OutOfStep))
     unfolding readyOf
-    cmp-parameters n p true e = enters UntilCmp n n Parameters (Ready (acceptedOf x p) (stationMost p)) (AtReady (ltb-true 5 n e))
+    cmp-parameters n p true e = enters UntilCmp n n Parameters (Ready (acceptedOf x p) (stationMost p)) (AtReady (ltb-true firstEcp n e))
     cmp-parameters n p false e = stays-out UntilCmp n n Parameters AtParameters
 
     in-parameters : (n : ℕ) (w : ChargeMessage) → besides UntilCmp n w ≡ true → Word UntilCmp n (comes n Parameters (inParameters x n w))
     unfolding besides inParameters
     in-parameters n Cim h = absurd (false≢true h)
     in-parameters n (Cvm v) h = cvm-parameters n v
-    in-parameters n (Cmp p) h = cmp-parameters n p (ltb 5 n) refl
+    in-parameters n (Cmp p) h = cmp-parameters n p (ltb firstEcp n) refl
     in-parameters n (Crm v) h = stays-out UntilCmp n n Parameters AtParameters
     in-parameters n (Ccs v) h = stays-out UntilCmp n n Parameters AtParameters
     in-parameters n (Cst v) h = absurd (false≢true h)
@@ -145,14 +145,14 @@ module _ (x : Settings) (a : ℕ) (o : Offer) where
     crm-stays k n m most accepted true p = stays-heard k n m (Ready accepted most) p
     crm-stays k n m most accepted false p = stays-out k n m (Ready accepted most) p
 
-    in-ready : (n m most : ℕ) (accepted : Bool) (w : ChargeMessage) → 6 ≤ n → besides UntilCmp n w ≡ true
+    in-ready : (n m most : ℕ) (accepted : Bool) (w : ChargeMessage) → firstEcp + 1 ≤ n → besides UntilCmp n w ≡ true
         → Word UntilCmp n (comes m (Ready accepted most) (inReady x accepted most m w))
     unfolding besides inReady readyOf crmOf
     in-ready n m most accepted Cim l h = absurd (false≢true h)
     in-ready n m most accepted (Cvm v) l h = stays-out UntilCmp n m (Ready accepted most) (AtReady l)
     in-ready n m most accepted (Cmp p) l h =
         enters UntilCmp n m (Ready accepted most) (Ready (acceptedOf x p) (stationMost p)) (AtReady l)
-    in-ready n m most accepted (Crm true) l h = absurd (false≢true (not-both (ltb 5 n) (lt-ltb 5 n l) h))
+    in-ready n m most accepted (Crm true) l h = absurd (false≢true (not-both (ltb firstEcp n) (lt-ltb firstEcp n l) h))
     in-ready n m most accepted (Crm false) l h = crm-stays UntilCmp n m most accepted (accepted && ltb 0 m) (AtReady l)
     in-ready n m most accepted (Ccs v) l h = stays-out UntilCmp n m (Ready accepted most) (AtReady l)
     in-ready n m most accepted (Cst v) l h = absurd (false≢true h)
@@ -216,10 +216,10 @@ module _ (x : Settings) (a : ℕ) (o : Offer) where
   unfolding sessionAfter outcomeOf inUnverified
   cvm-later n b m st AtUnverified = refl
 
-  pub cmp-offers : (n b m : ℕ) (st : State) → At o UntilCmp n st m → acceptedOf x o ≡ true → 6 ≤ n
+  pub cmp-offers : (n b m : ℕ) (st : State) → At o UntilCmp n st m → acceptedOf x o ≡ true → firstEcp + 1 ≤ n
       → sessionAfter a (mk a b m st) (outcomeOf x st m (Cmp o)) ≡ mk a 0 0 (Ready true (stationMost o))
   unfolding sessionAfter outcomeOf inParameters inReady readyOf
-  cmp-offers n b m st AtParameters y l = rw (lt-ltb 5 n l, y)
+  cmp-offers n b m st AtParameters y l = rw (lt-ltb firstEcp n l, y)
   cmp-offers n b m st (AtReady h) y l = rw y
 
   pub crm-starts : (n b m : ℕ) (st : State) → At o UntilCrm n st m → 1 ≤ n

@@ -1,31 +1,34 @@
--- What a session heeds is `feeds`, no more and no less: a charge message that does not feed it is refused and leaves it as it was, one that does
--- returns its silence to 0. So a frame by which its station is unheard leaves the session as it was. Assumes nothing.
+-- What a session heeds is `feeds`, no more and no less: a charge message that does not feed it is refused and leaves it
+-- as it was, one that does returns its silence to 0. So a frame by which its station says nothing that is heeded leaves
+-- the session as it was. Assumes nothing.
 use Prim.Native.Nat.{ℕ}
 use mathlib.Core.Path.{_≡_, refl, ap, sym, subst, _∙_}
 use mathlib.Core.Bool.{Bool, true, false, _&&_, false≢true}
 use mathlib.Core.List.{List}
 use lib.Dec.{ltb}
-use borrow.Author.Tests.{eq-eqb}
 use Rattle.settings.specs.declared.Settings.{Settings}
 use Rattle.charge_messages.specs.declared.ChargeMessage.{ChargeMessage}
 use Rattle.charge_messages.specs.declared.ChargeMessage.the-variants.{Cim, Cvm, Cmp, Crm, Ccs, Cst, Cem}
-use Rattle.session_states.specs.declared.phases.Phase.{Phase}
-use Rattle.session_states.specs.declared.states.Est.{Est}
-use Rattle.session_states.specs.declared.states.State.{State}
-use Rattle.session_states.specs.declared.states.State.the-variants.{Idle, Offered, Unverified, Parameters, Ready, Charging, Stopping, Error}
-use Rattle.session_by_message.specs.declared.Outcome.{Outcome}
-use Rattle.session_by_message.specs.declared.Outcome.the-variants.{Refuse}
-use Rattle.session_by_message.specs.Message.{outcomeOf, inOffered, inUnverified, inParameters, inReady, readyOf, crmOf, inCharging, inStopping, inError}
+use Rattle.phases.specs.declared.Phase.{Phase}
+use Rattle.states.specs.declared.Est.{Est}
+use Rattle.states.specs.declared.State.{State}
+use Rattle.states.specs.declared.State.the-variants.{Idle, Offered, Unverified, Parameters, Ready, Charging, Stopping, Error}
+use Rattle.outcomes.specs.declared.Outcome.{Outcome}
+use Rattle.outcomes.specs.declared.Outcome.the-variants.{Refuse}
+use Rattle.outcomes.specs.Message.{outcomeOf, inOffered, inUnverified, inParameters, inReady, readyOf, crmOf, inCharging, inStopping, inError}
 use Rattle.session.specs.declared.Session.{Session}
 use Rattle.session.specs.Message.{sessionAfter, appliedOf, messageOf}
 use Rattle.controller.specs.declared.Controller.{Controller}
 use Rattle.refusals.specs.Frame.{isIdle}
 use Rattle.controller.specs.Frame.{frameTo}
-use Rattle.demands.specs.Apart.{Came, ended, queryIn, isQuery, fromStation}
+use Rattle.demands.specs.Limits.{firstEcp}
+use Rattle.demands.specs.Events.{FrameReceived, noSession}
+use Rattle.demands.specs.Apart.{fromStation}
 use Rattle.demands.specs.Says.{Says}
 use Rattle.demands.specs.Kinds.{isStopping}
-use Rattle.demands.specs.Silent.{feeds, Unheard}
-use Rattle.demands.proofs.Came.{same}
+use Rattle.demands.specs.Silent.{feeds, Unheeded}
+use Rattle.demands.proofs.Tests.{same}
+use Rattle.demands.proofs.Apart.{says-from}
 use Rattle.demands.proofs.ReachFrames.{frame-says, Spoken, Unsaid, Said, spoken}
 
 -- ---- the table against the outcomes
@@ -62,7 +65,7 @@ module _ (x : Settings) (source : ℕ) (s : Session) (n : ℕ) where
   unfolding Fits silenceAfter sessionAfter inParameters readyOf feeds
   fits-parameters Cim = refl
   fits-parameters (Cvm b) = same silenceAfter b refl refl
-  fits-parameters (Cmp o) = same silenceAfter (ltb 5 n) refl refl
+  fits-parameters (Cmp o) = same silenceAfter (ltb firstEcp n) refl refl
   fits-parameters (Crm b) = refl
   fits-parameters (Ccs b) = refl
   fits-parameters (Cst b) = refl
@@ -154,31 +157,26 @@ module _ (x : Settings) (source : ℕ) (s : Session) (n : ℕ) where
 
 -- ---- over frames
 -- what the station says in vain leaves the session as it was
-said-in-vain : (c : Controller) (m : ChargeMessage) (id : ℕ) (s : List ℕ) → ended c ≡ false → Says (c .settings) (c .session .station) m id s
+said-in-vain : (c : Controller) (m : ChargeMessage) (id : ℕ) (s : List ℕ) → noSession c ≡ false → Says (c .settings) (c .session .station) m id s
     → feeds (c .session .state) m ≡ false → frameTo c id s .controller .session ≡ c .session
-unfolding ended messageOf appliedOf sessionAfter
+unfolding noSession messageOf appliedOf sessionAfter
 said-in-vain c m id s o says h =
     frame-says c m id s says o
     ∙ ap (sessionAfter (c .session .station) (c .session))
     (unfed-refused (c .settings) (c .session .station) (c .session) (c .session .count) (c .session .state) m o h)
 
-unheard-spoken : (c : Controller) (id : ℕ) (s : List ℕ) → ended c ≡ false → Unheard c (Came id s) → Spoken c id s (frameTo c id s)
+unheeded-spoken : (c : Controller) (id : ℕ) (s : List ℕ) → noSession c ≡ false → Unheeded c (FrameReceived id s) → Spoken c id s (frameTo c id s)
     → frameTo c id s .controller .session ≡ c .session
-unfolding Unheard
-unheard-spoken c id s o u (Unsaid k) = k
-unheard-spoken c id s o u (Said m says) = said-in-vain c m id s o says (u m says)
+unfolding Unheeded
+unheeded-spoken c id s o u (Unsaid k) = k
+unheeded-spoken c id s o u (Said m says) = said-in-vain c m id s o says (u m says)
 
--- a frame by which its station is unheard leaves an open session as it was
-pub unheard-kept : (c : Controller) (id : ℕ) (s : List ℕ) → ended c ≡ false → Unheard c (Came id s)
+-- a frame by which its station says nothing that is heeded leaves an open session as it was
+pub unheeded-kept : (c : Controller) (id : ℕ) (s : List ℕ) → noSession c ≡ false → Unheeded c (FrameReceived id s)
     → frameTo c id s .controller .session ≡ c .session
-unheard-kept c id s o u = unheard-spoken c id s o u (spoken c id s o)
+unheeded-kept c id s o u = unheeded-spoken c id s o u (spoken c id s o)
 
 -- ---- a station that sends nothing
--- by what it says the station is the source of a frame, and the frame is no query
-says-from : (x : Settings) (st : ℕ) (m : ChargeMessage) (id : ℕ) (s : List ℕ) → Says x st m id s → fromStation st id ≡ true
-unfolding fromStation isQuery queryIn
-says-from x st m id s h = rw (h .source, eq-eqb st st refl, h .pf)
-
-pub still-unheard : (c : Controller) (id : ℕ) (s : List ℕ) → fromStation (c .session .station) id ≡ false → Unheard c (Came id s)
-unfolding Unheard
-still-unheard c id s h m says = absurd (false≢true (sym h ∙ says-from (c .settings) (c .session .station) m id s says))
+pub still-unheeded : (c : Controller) (id : ℕ) (s : List ℕ) → fromStation (c .session .station) id ≡ false → Unheeded c (FrameReceived id s)
+unfolding Unheeded
+still-unheeded c id s h m says = absurd (false≢true (sym h ∙ says-from (c .settings) (c .session .station) m id s says))

@@ -1,23 +1,23 @@
--- 800 accepted ticks are not enough for a session whose station falls silent: a run from a fresh controller, by the CIM of the station 56 to us, F4,
--- and 800 ticks at which charge is wanted and nothing comes. Assumes nothing.
+-- 800 accepted ticks are not enough for a session whose station falls silent: a run from a fresh controller, by the CIM
+-- of the station 56 to us, F4, and 800 ticks at which charge is wanted and nothing comes. Assumes nothing.
 use Prim.Native.Nat.{ℕ, zero, suc}
 use native.Mathlib.Omega.{arith}
 use mathlib.Core.Path.{_≡_, refl, sym, _∙_}
-use mathlib.Core.Bool.{true, false, false≢true}
+use mathlib.Core.Bool.{false, false≢true}
 use mathlib.Core.List.{[], _∷_}
 use lib.IntN.{pos}
 use Rattle.controller.specs.declared.Controller.{Controller}
 use Rattle.controller.specs.Start.{freshOf}
-use Rattle.demands.specs.Apart.{Event, Came, Beaten, after}
-use Rattle.demands.specs.Silent.{Unheard, Silence, ticked, ticksIn, endsWithin, repeated, EndsBy}
+use Rattle.demands.specs.Events.{Event, FrameReceived, TickMade, after, endsWithin}
+use Rattle.demands.specs.Silent.{Unheeded, Silence, isAcceptedTick, ticksIn, EndsBy}
 use Rattle.demands.specs.Over.{openedWith}
-use Rattle.demands.proofs.Silent.{zeros, quietReadings, such-a-tick, not-within-800}
+use Rattle.demands.proofs.Silent.{repeated, zeros, quietReadings, such-a-tick, not-within-800}
 use Rattle.demands.proofs.Reach.{cim-opens}
 use Rattle.demands.proofs.ReachRun.{ours, is-listed, cimData, says-cim}
 
 -- ---- a fresh controller, and the CIM that opens its session
 abbrev pub opened : Controller
-opened = after (freshOf ours) (Came 0x1826_f456 cimData)
+opened = after (freshOf ours) (FrameReceived 0x1826_f456 cimData)
 
 just-opened : opened .session ≡ openedWith 0x56
 unfolding freshOf
@@ -25,15 +25,15 @@ just-opened = cim-opens (freshOf ours) 0x56 0x1826_f456 cimData refl is-listed s
 
 -- ---- 800 ticks
 abbrev tick : Event
-tick = Beaten quietReadings (330 ∷ []) (pos 20 ∷ []) (zeros 117)
+tick = TickMade quietReadings (330 ∷ []) (pos 20 ∷ []) (zeros 117)
 
 ticks-silent : (n : ℕ) (c : Controller) → Silence c (repeated n tick)
-unfolding Silence Unheard repeated
+unfolding Silence Unheeded repeated
 ticks-silent zero c = tt
 ticks-silent (suc n) c = λ o. (tt, ticks-silent n (after c tick))
 
 ticks-many : (n : ℕ) → ticksIn (repeated n tick) ≡ n
-unfolding ticksIn repeated ticked
+unfolding ticksIn repeated isAcceptedTick
 ticks-many zero = refl
 ticks-many (suc n) = rw (such-a-tick .0, ticks-many n) (omega arith)
 

@@ -1,5 +1,6 @@
--- Two slips to shut out (01): a restarted station's CIM does not hold a session open in Parameters, and neither CRM nor any other message of the
--- handshake holds one open in Charging. Whatever else comes, the session has ended within 801 accepted ticks. Assumes nothing.
+-- Two slips to shut out (01): a restarted station's CIM does not hold a session open in Parameters, and neither CRM nor
+-- any other message of the handshake holds one open in Charging. Whatever else comes, the session has ended within 801
+-- accepted ticks. Assumes nothing.
 use Prim.Native.Nat.{ℕ, _≤_}
 use mathlib.Core.Path.{_≡_, refl, sym, ap, subst, _∙_}
 use mathlib.Core.Bool.{Bool, true, false, cond, false≢true}
@@ -17,28 +18,30 @@ use Rattle.cells.specs.declared.Cells.{Cells}
 use Rattle.cells.specs.Summaries.{cellsOf}
 use Rattle.charge_messages.specs.declared.ChargeMessage.{ChargeMessage}
 use Rattle.charge_messages.specs.declared.ChargeMessage.the-variants.{Cim, Cvm, Cmp, Crm, Ccs, Cst, Cem}
-use Rattle.session_states.specs.declared.phases.Phase.{Phase}
-use Rattle.session_states.specs.declared.phases.Turned.{Turned}
-use Rattle.session_states.specs.declared.phases.Turned.the-variants as turned
-use Rattle.session_states.specs.Phases.{turnedOf}
-use Rattle.session_states.specs.declared.states.Est.{Est}
-use Rattle.session_states.specs.declared.states.State.{State}
-use Rattle.session_states.specs.declared.states.State.the-variants.{Idle, Offered, Unverified, Parameters, Ready, Charging, Stopping, Error}
-use Rattle.session_by_tick.specs.declared.Turn.{Turn}
-use Rattle.session_by_tick.specs.declared.Turn.the-variants as turn
-use Rattle.session_by_tick.specs.Turns.{stopOf, estThen, waitingOf, phaseOn, phaseTurn, stopsOf, chargingOf, stoppingOf, errorOf, turnOf, cellFull, packFull}
+use Rattle.phases.specs.declared.Phase.{Phase}
+use Rattle.phases.specs.declared.Turned.{Turned}
+use Rattle.phases.specs.declared.Turned.the-variants as turned
+use Rattle.phases.specs.Phases.{turnedOf}
+use Rattle.states.specs.declared.Est.{Est}
+use Rattle.states.specs.declared.State.{State}
+use Rattle.states.specs.declared.State.the-variants.{Idle, Offered, Unverified, Parameters, Ready, Charging, Stopping, Error}
+use Rattle.turns.specs.declared.Turn.{Turn}
+use Rattle.turns.specs.declared.Turn.the-variants as turn
+use Rattle.turns.specs.Turns.{stopOf, estThen, waitingOf, phaseOn, phaseTurn, stopsOf, chargingOf, stoppingOf, errorOf, turnOf, cellFull, packFull}
 use Rattle.session.specs.declared.Session.{Session}
 use Rattle.session.specs.Tick.{turnedBy, turnIn}
-use Rattle.session_paper_counts.specs.Literal.{older, grown, counted, literalIn, literalAdvance, literalTick}
+use Rattle.literal.specs.Literal.{older, grown, counted, literalIn, literalAdvance, literalTick}
 use Rattle.controller.specs.declared.Controller.{Controller}
+use Rattle.demands.specs.Limits.{silenceLimit, closingLimit}
 use Rattle.demands.specs.Machine.{paperNext}
 use Rattle.refusals.specs.Frame.{isIdle}
-use Rattle.demands.specs.Apart.{Event, Came, Beaten, Wrote, Reread, accepts, readInto, after, ended}
+use Rattle.demands.specs.Events.{Event, FrameReceived, TickMade, RecordWritten, RecordRead, accepts, readInto, after, noSession, endsWithin}
 use Rattle.demands.specs.Says.{Says}
-use Rattle.demands.specs.Silent.{feeds, Unheard, Silence, ticksIn, endsWithin, longest}
+use Rattle.demands.specs.Silent.{feeds, Unheeded, Silence, ticksIn, longest}
 use Rattle.demands.specs.SilentSlips.{isCim, isHandshake, SaysOnly}
-use Rattle.demands.proofs.Apart.{kept-open, kept-settings}
-use Rattle.demands.proofs.SilentFrames.{unheard-kept}
+use Rattle.demands.proofs.Comes.{kept-settings}
+use Rattle.demands.proofs.Apart.{kept-open}
+use Rattle.demands.proofs.SilentFrames.{unheeded-kept}
 use Rattle.demands.proofs.Silent.{within-801}
 
 either : (P : Turn → Type 0) (t : Bool) {a b : Turn} → P a → P b → P (cond t a b)
@@ -77,7 +80,7 @@ module _ (among : State → Bool) (these : ChargeMessage → Bool)
   module _ (x : Settings) (r : Readings) (c : Cells) where
     stays-waiting : (b : ℕ) (st : State) → among st ≡ true → Stays (waitingOf r b st)
     unfolding Stays waitingOf
-    stays-waiting b st h = either Stays (leb 200 b) error (either Stays (wantedOf r) h tt)
+    stays-waiting b st h = either Stays (leb silenceLimit b) error (either Stays (wantedOf r) h tt)
 
     stays-phase : (q : Turned) → ((p : Phase) → among (Charging p) ≡ true) → Stays (phaseOn x r c q)
     unfolding Stays phaseOn stopOf
@@ -87,7 +90,7 @@ module _ (among : State → Bool) (these : ChargeMessage → Bool)
     stays-charging : (b : ℕ) (p : Phase) → among (Charging p) ≡ true → Stays (chargingOf x r c b p)
     unfolding Stays chargingOf stopsOf phaseTurn stopOf
     stays-charging b p h =
-        either Stays (leb 200 b) error
+        either Stays (leb silenceLimit b) error
         (either Stays (wantedOf r)
         (either Stays (aboveOf (r .current) (x .current)) (stopping _ _)
         (either Stays (packFull x r) (stopping _ _) (stays-phase (turnedOf p (cellFull x c)) (λ q. charging p q h))))
@@ -101,8 +104,8 @@ module _ (among : State → Bool) (these : ChargeMessage → Bool)
     stays-turn n b Parameters h = stays-waiting b Parameters h
     stays-turn n b (Ready y k) h = stays-waiting b (Ready y k) h
     stays-turn n b (Charging p) h = stays-charging b p h
-    stays-turn n b (Stopping a e) h = either Stays (leb 600 n) tt (stopping a (estThen x r c e))
-    stays-turn n b Error h = either Stays (leb 600 n) tt h
+    stays-turn n b (Stopping a e) h = either Stays (leb closingLimit n) tt (stopping a (estThen x r c e))
+    stays-turn n b Error h = either Stays (leb closingLimit n) tt h
 
     stays-tick : (s : Session) → among (s .state) ≡ true → among (literalTick x r c s .state) ≡ true
     unfolding literalTick literalAdvance turnIn
@@ -113,24 +116,24 @@ module _ (among : State → Bool) (these : ChargeMessage → Bool)
   -- ---- over events
   record Deaf (x : Settings) (st : ℕ) (c : Controller) : Type 0 where
     settings : c .settings ≡ x
-    station : ended c ≡ false → c .session .station ≡ st
+    station : noSession c ≡ false → c .session .station ≡ st
     state : among (c .session .state) ≡ true
 
-  unheard-frame : (x : Settings) (st : ℕ) (c : Controller) (id : ℕ) (s : List ℕ) → Deaf x st c → ended c ≡ false
-      → ((m : ChargeMessage) → Says x st m id s → these m ≡ true) → Unheard c (Came id s)
-  unfolding Unheard
+  unheard-frame : (x : Settings) (st : ℕ) (c : Controller) (id : ℕ) (s : List ℕ) → Deaf x st c → noSession c ≡ false
+      → ((m : ChargeMessage) → Says x st m id s → these m ≡ true) → Unheeded c (FrameReceived id s)
+  unfolding Unheeded
   unheard-frame x st c id s d o f m says =
       deaf (c .session .state) m (d .state)
       (f m (subst (λ (z : ℕ). Says x z m id s) (d .station o) (subst (λ (y : Settings). Says y (c .session .station) m id s) (d .settings) says)))
 
-  deaf-frame : (x : Settings) (st : ℕ) (c : Controller) (id : ℕ) (s : List ℕ) → Deaf x st c → ended c ≡ false → Unheard c (Came id s)
-      → Deaf x st (after c (Came id s))
+  deaf-frame : (x : Settings) (st : ℕ) (c : Controller) (id : ℕ) (s : List ℕ) → Deaf x st c → noSession c ≡ false → Unheeded c (FrameReceived id s)
+      → Deaf x st (after c (FrameReceived id s))
   unfolding after
   deaf-frame x st c id s d o u =
       record {
         settings = kept-settings c id s ∙ d .settings;
-        station = λ p. ap (λ (z : Session). z .station) (unheard-kept c id s o u) ∙ d .station o;
-        state = ap (λ (z : Session). among (z .state)) (unheard-kept c id s o u) ∙ d .state;
+        station = λ p. ap (λ (z : Session). z .station) (unheeded-kept c id s o u) ∙ d .station o;
+        state = ap (λ (z : Session). among (z .state)) (unheeded-kept c id s o u) ∙ d .state;
       }
 
   state-tick : (c : Controller) (r : Readings) (v : List ℕ) (t : List ℤ) (b : Bool) → among (c .session .state) ≡ true
@@ -144,37 +147,37 @@ module _ (among : State → Bool) (these : ChargeMessage → Bool)
   settings-tick c r v t true = refl
   settings-tick c r v t false = refl
 
-  deaf-tick : (x : Settings) (st : ℕ) (c : Controller) (r : Readings) (v : List ℕ) (t : List ℤ) (old : List ℕ) → Deaf x st c → ended c ≡ false
-      → Deaf x st (after c (Beaten r v t old))
+  deaf-tick : (x : Settings) (st : ℕ) (c : Controller) (r : Readings) (v : List ℕ) (t : List ℤ) (old : List ℕ) → Deaf x st c → noSession c ≡ false
+      → Deaf x st (after c (TickMade r v t old))
   unfolding after
   deaf-tick x st c r v t old d o =
       record {
         settings = settings-tick c r v t (accepts r v t old) ∙ d .settings;
-        station = λ p. kept-open c (Beaten r v t old) o p ∙ d .station o;
+        station = λ p. kept-open c (TickMade r v t old) o p ∙ d .station o;
         state = state-tick c r v t (accepts r v t old) (d .state);
       }
 
-  over-silence : (c : Controller) (es : List Event) → ended c ≡ true → Silence c es
+  over-silence : (c : Controller) (es : List Event) → noSession c ≡ true → Silence c es
   unfolding Silence
   over-silence c [] h = tt
   over-silence c (e ∷ es) h = λ o. absurd (false≢true (sym o ∙ h))
 
   -- new settings end the session, and a record that is refused changes nothing
   either-read : (a : SettingsRead) (c : Controller) (es : List Event) → Silence c es → Silence (readInto a c) es
-  unfolding readInto freshOf ended isIdle
+  unfolding readInto freshOf noSession isIdle
   either-read (read.Read y) c es h = over-silence (freshOf y) es refl
   either-read (read.Refused n) c es h = h
 
   deaf-silence : (x : Settings) (st : ℕ) (es : List Event) (c : Controller) → Deaf x st c → SaysOnly these x st es → Silence c es
-  unfolding SaysOnly Silence Unheard after
+  unfolding SaysOnly Silence Unheeded after
   deaf-silence x st [] c d f = tt
-  deaf-silence x st (Came id s ∷ es) c d f = λ o.
-      let u : Unheard c (Came id s) = unheard-frame x st c id s d o (f .0) in
-      (u, deaf-silence x st es (after c (Came id s)) (deaf-frame x st c id s d o u) (f .1))
-  deaf-silence x st (Beaten r v t old ∷ es) c d f = λ o.
-      (tt, deaf-silence x st es (after c (Beaten r v t old)) (deaf-tick x st c r v t old d o) f)
-  deaf-silence x st (Wrote old ∷ es) c d f = λ o. (tt, deaf-silence x st es (after c (Wrote old)) d f)
-  deaf-silence x st (Reread s ∷ es) c d f = λ o. (tt, either-read (readOf s) c es (deaf-silence x st es c d f))
+  deaf-silence x st (FrameReceived id s ∷ es) c d f = λ o.
+      let u : Unheeded c (FrameReceived id s) = unheard-frame x st c id s d o (f .0) in
+      (u, deaf-silence x st es (after c (FrameReceived id s)) (deaf-frame x st c id s d o u) (f .1))
+  deaf-silence x st (TickMade r v t old ∷ es) c d f = λ o.
+      (tt, deaf-silence x st es (after c (TickMade r v t old)) (deaf-tick x st c r v t old d o) f)
+  deaf-silence x st (RecordWritten old ∷ es) c d f = λ o. (tt, deaf-silence x st es (after c (RecordWritten old)) d f)
+  deaf-silence x st (RecordRead s ∷ es) c d f = λ o. (tt, either-read (readOf s) c es (deaf-silence x st es c d f))
 
   deaf-ends : (c : Controller) (es : List Event) → among (c .session .state) ≡ true → SaysOnly these (c .settings) (c .session .station) es
       → longest ≤ ticksIn es → endsWithin c es ≡ true

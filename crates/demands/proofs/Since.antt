@@ -1,5 +1,5 @@
--- "Over any sequence of calls from the start" (demand 2): every controller in use is a fresh one after a run of events; and what a call is seen to do
--- is what the demands speak of. Assumes nothing.
+-- "Over any sequence of calls from the start" (demand 2): every controller in use is a fresh one after a run of events;
+-- and what a call is seen to do is what the demands speak of. Assumes nothing.
 use Prim.Native.Nat.{ℕ}
 use mathlib.Core.Path.{_≡_, refl, ap, _∙_}
 use mathlib.Core.Bool.{Bool, true, false, cond}
@@ -14,8 +14,9 @@ use Rattle.controller.specs.declared.Controller.{Controller}
 use Rattle.controller.specs.Start.{freshOf, startWith, startOf}
 use Rattle.controller.specs.Frame.{frameTo}
 use Rattle.controller.specs.Tick.{chargeFrames, broadcastFrames, cellFrames, tickFrames, accepted}
-use Rattle.demands.specs.Machine.{Call, Read, Receive, Tick, Write, Box, Off, On, Gave, paperNext, started, boxAfter, seenOf, boxAt, numberSeen, framesSeen}
-use Rattle.demands.specs.Apart.{Event, Came, Beaten, callOf, accepts, after, afterAll, sentAt}
+use Rattle.demands.specs.Machine.{Call, Read, Receive, Tick, Write, Box, NoController, Using, Gave, paperNext, started, boxAfter, seenOf, boxAt, numberSeen, framesSeen}
+use Rattle.demands.specs.Events.{Event, FrameReceived, TickMade, callOf, accepts, after, afterAll}
+use Rattle.demands.specs.Apart.{sentAt}
 use Rattle.demands.specs.Unmoved.{broadcastsAt, cellsAt}
 use Rattle.demands.specs.Since.{Since, InUse}
 
@@ -40,12 +41,12 @@ since-read (read.Refused n) b h = h
 since-call : (b : Box) (k : Call) → InUse b → InUse (boxAfter paperNext b k)
 unfolding boxAfter InUse startOf after accepted accepts
 since-call b (Read s) h = since-read (readOf s) b h
-since-call Off (Receive id s) h = h
-since-call (On c) (Receive id s) h = since-after c (Came id s) h
-since-call Off (Tick r v t old) h = h
-since-call (On c) (Tick r v t old) h = since-after c (Beaten r v t old) h
-since-call Off (Write old) h = h
-since-call (On c) (Write old) h = h
+since-call NoController (Receive id s) h = h
+since-call (Using c) (Receive id s) h = since-after c (FrameReceived id s) h
+since-call NoController (Tick r v t old) h = h
+since-call (Using c) (Tick r v t old) h = since-after c (TickMade r v t old) h
+since-call NoController (Write old) h = h
+since-call (Using c) (Write old) h = h
 
 from-box : (b : Box) (ks : List Call) → InUse b → InUse (boxAt paperNext b ks)
 unfolding boxAt
@@ -53,9 +54,9 @@ from-box b [] h = h
 from-box b (k ∷ ks) h = from-box (boxAfter paperNext b k) ks (since-call b k h)
 
 -- after any calls
-pub in-use : (ks : List Call) → InUse (boxAt paperNext Off ks)
+pub in-use : (ks : List Call) → InUse (boxAt paperNext NoController ks)
 unfolding InUse
-in-use ks = from-box Off ks tt
+in-use ks = from-box NoController ks tt
 
 -- what a tick is seen to send: charge frames, then broadcasts, then the cell frame
 both-ways : (t : Bool) (n k m j : ℕ) (l o : List ℕ) (x y z : List Frame)
@@ -65,14 +66,14 @@ both-ways true n k m j l o x y z = refl
 both-ways false n k m j l o x y z = refl
 
 pub seen-tick : (c : Controller) (r : Readings) (v : List ℕ) (t : List ℤ) (old : List ℕ)
-    → framesSeen (seenOf paperNext (On c) (callOf (Beaten r v t old))) ≡ sentAt c r v t old ++ (broadcastsAt c r v t old ++ cellsAt c r v t old)
+    → framesSeen (seenOf paperNext (Using c) (callOf (TickMade r v t old))) ≡ sentAt c r v t old ++ (broadcastsAt c r v t old ++ cellsAt c r v t old)
 unfolding seenOf sentAt broadcastsAt cellsAt accepts accepted tickFrames
 seen-tick c r v t old =
     both-ways (accepts r v t old) _ _ _ _ _ _ (chargeFrames c r v t) (broadcastFrames c r v t) (cellFrames c r v t)
 
 -- what a frame is seen to be answered, and that it sends nothing
 pub seen-frame : (c : Controller) (id : ℕ) (s : List ℕ)
-    → (numberSeen (seenOf paperNext (On c) (callOf (Came id s))) ≡ frameTo c id s .number)
-    × (framesSeen (seenOf paperNext (On c) (callOf (Came id s))) ≡ [])
+    → (numberSeen (seenOf paperNext (Using c) (callOf (FrameReceived id s))) ≡ frameTo c id s .number)
+    × (framesSeen (seenOf paperNext (Using c) (callOf (FrameReceived id s))) ≡ [])
 unfolding seenOf numberSeen framesSeen
 seen-frame c id s = (refl, refl)

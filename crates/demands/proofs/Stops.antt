@@ -1,5 +1,6 @@
--- "Exactly which tick ends or stops a session, and why" (01, "Session by tick"): an accepted tick leads where the first of the paper's rules that
--- holds says, from every state, and a refused one changes nothing. So which ticks end a session, and which end a charge. Assumes nothing.
+-- "Exactly which tick ends or stops a session, and why" (01, "Session by tick"): an accepted tick leads where the first
+-- of the paper's rules that holds says, from every state, and a refused one changes nothing. So which ticks end a
+-- session, and which end a charge. Assumes nothing.
 use Prim.Native.Nat.{ℕ}
 use mathlib.Core.Path.{_≡_, refl, sym, ap, _∙_}
 use mathlib.Core.Bool.{Bool, true, false, not, cond, _&&_, false≢true}
@@ -9,23 +10,23 @@ use Rattle.settings.specs.declared.Settings.{Settings}
 use Rattle.readings.specs.declared.Readings.{Readings}
 use Rattle.cells.specs.declared.Cells.{Cells}
 use Rattle.cells.specs.Summaries.{cellsOf}
-use Rattle.session_states.specs.declared.states.State.{State}
-use Rattle.session_states.specs.declared.states.State.the-variants.{Idle, Offered, Unverified, Parameters, Ready, Charging, Stopping, Error}
-use Rattle.session_states.specs.declared.phases.Turned.{Turned}
-use Rattle.session_states.specs.declared.phases.Turned.the-variants as turned
-use Rattle.session_states.specs.Phases.{turnedOf}
-use Rattle.session_by_tick.specs.Turns.{cellFull, turnOf}
+use Rattle.states.specs.declared.State.{State}
+use Rattle.states.specs.declared.State.the-variants.{Idle, Offered, Unverified, Parameters, Ready, Charging, Stopping, Error}
+use Rattle.phases.specs.declared.Turned.{Turned}
+use Rattle.phases.specs.declared.Turned.the-variants as turned
+use Rattle.phases.specs.Phases.{turnedOf}
+use Rattle.turns.specs.Turns.{cellFull, turnOf}
 use Rattle.session.specs.Tick.{turnedBy, turnIn}
-use Rattle.session_paper_counts.specs.Literal.{literalIn, literalAdvance, literalTick}
+use Rattle.literal.specs.Literal.{literalIn, literalAdvance, literalTick}
 use Rattle.controller.specs.declared.Controller.{Controller}
 use Rattle.refusals.specs.Frame.{isIdle}
 use Rattle.demands.specs.Machine.{paperNext}
-use Rattle.demands.specs.Apart.{Beaten, accepts, after, ended}
+use Rattle.demands.specs.Events.{TickMade, accepts, after, noSession}
 use Rattle.demands.specs.Kinds.{isCharging}
-use Rattle.demands.specs.Stops.{Why, GoesOn, Silence, Unwanted, NotWanted, CurrentAbove, PackFull, TimeUp, CellFull, Count600}
+use Rattle.demands.specs.Stops.{Why, GoesOn, AtSilenceLimit, NotWantedBefore, NotWantedCharging, CurrentAbove, PackFull, TimeUp, CellFull, AtClosingLimit}
 use Rattle.demands.specs.Stops.{whyOf, ChargesAs, GoesOnAs, LeadsTo, endsFor, leavesFor}
 use Rattle.demands.proofs.Messages.{mk}
-use Rattle.demands.proofs.Turned.{tick-why}
+use Rattle.demands.proofs.Reasons.{tick-why}
 
 pub charging-open : (st : State) → isCharging st ≡ true → isIdle st ≡ false
 unfolding isCharging isIdle
@@ -58,14 +59,14 @@ module _ (x : Settings) (r : Readings) (c : Cells) where
   leads-idle : (w : Why) (from to : State) → isIdle from ≡ false → LeadsTo x r c from w to → isIdle to ≡ endsFor w
   unfolding LeadsTo endsFor isIdle
   leads-idle GoesOn from to h e = on-open from to h e
-  leads-idle Silence from to h e = ap isIdle e
-  leads-idle Unwanted from to h e = ap isIdle e
-  leads-idle NotWanted from to h e = ap isIdle e
+  leads-idle AtSilenceLimit from to h e = ap isIdle e
+  leads-idle NotWantedBefore from to h e = ap isIdle e
+  leads-idle NotWantedCharging from to h e = ap isIdle e
   leads-idle CurrentAbove from to h e = ap isIdle e
   leads-idle PackFull from to h e = ap isIdle e
   leads-idle TimeUp from to h e = ap isIdle e
   leads-idle CellFull from to h e = ap isIdle e
-  leads-idle Count600 from to h e = ap isIdle e
+  leads-idle AtClosingLimit from to h e = ap isIdle e
 
   on-charging : (from to : State) → isCharging from ≡ true → GoesOnAs x r c from to → isCharging to ≡ true
   unfolding GoesOnAs isCharging
@@ -81,14 +82,14 @@ module _ (x : Settings) (r : Readings) (c : Cells) where
   leads-charging : (w : Why) (from to : State) → isCharging from ≡ true → LeadsTo x r c from w to → isCharging to ≡ not (leavesFor w)
   unfolding LeadsTo leavesFor isCharging
   leads-charging GoesOn from to h e = on-charging from to h e
-  leads-charging Silence from to h e = ap isCharging e
-  leads-charging Unwanted from to h e = ap isCharging e
-  leads-charging NotWanted from to h e = ap isCharging e
+  leads-charging AtSilenceLimit from to h e = ap isCharging e
+  leads-charging NotWantedBefore from to h e = ap isCharging e
+  leads-charging NotWantedCharging from to h e = ap isCharging e
   leads-charging CurrentAbove from to h e = ap isCharging e
   leads-charging PackFull from to h e = ap isCharging e
   leads-charging TimeUp from to h e = ap isCharging e
   leads-charging CellFull from to h e = ap isCharging e
-  leads-charging Count600 from to h e = ap isCharging e
+  leads-charging AtClosingLimit from to h e = ap isCharging e
 
   idle-in : (a b n : ℕ) (st : State) → st ≡ Idle → literalTick x r c (mk a b n st) ≡ mk a b n st
   unfolding literalTick literalAdvance literalIn turnedBy turnIn turnOf
@@ -101,17 +102,17 @@ module _ (c : Controller) (r : Readings) (v : List ℕ) (t : List ℤ) (old : Li
 
   -- THE ANSWER for ticks: an accepted one leads where its reason says
   pub what-a-tick-does : accepts r v t old ≡ true
-      → LeadsTo (c .settings) r (cellsOf v t) (c .session .state) why (after c (Beaten r v t old) .session .state)
+      → LeadsTo (c .settings) r (cellsOf v t) (c .session .state) why (after c (TickMade r v t old) .session .state)
   unfolding after paperNext
   what-a-tick-does h = rw h (tick-why (c .settings) r (cellsOf v t) (c .session))
 
   -- a refused one changes nothing
-  pub what-a-refused-tick-does : accepts r v t old ≡ false → after c (Beaten r v t old) ≡ c
+  pub what-a-refused-tick-does : accepts r v t old ≡ false → after c (TickMade r v t old) ≡ c
   unfolding after
   what-a-refused-tick-does h = rw h
 
   -- in Idle the session's record is the same, accepted or not
-  pub what-a-tick-does-in-idle : c .session .state ≡ Idle → after c (Beaten r v t old) .session ≡ c .session
+  pub what-a-tick-does-in-idle : c .session .state ≡ Idle → after c (TickMade r v t old) .session ≡ c .session
   unfolding after paperNext
   what-a-tick-does-in-idle h = either (accepts r v t old)
     where
@@ -119,18 +120,18 @@ module _ (c : Controller) (r : Readings) (v : List ℕ) (t : List ℤ) (old : Li
       either true = idle-in (c .settings) r (cellsOf v t) (c .session .station) (c .session .silence) (c .session .count) (c .session .state) h
       either false = refl
 
-  pub which-tick-ends-a-session : ended c ≡ false → ended (after c (Beaten r v t old)) ≡ (accepts r v t old && endsFor why)
-  unfolding ended
+  pub which-tick-ends-a-session : noSession c ≡ false → noSession (after c (TickMade r v t old)) ≡ (accepts r v t old && endsFor why)
+  unfolding noSession
   which-tick-ends-a-session o = either (accepts r v t old) refl
     where
-      either : (b : Bool) → accepts r v t old ≡ b → isIdle (after c (Beaten r v t old) .session .state) ≡ (b && endsFor why)
+      either : (b : Bool) → accepts r v t old ≡ b → isIdle (after c (TickMade r v t old) .session .state) ≡ (b && endsFor why)
       either true h = leads-idle (c .settings) r (cellsOf v t) why (c .session .state) _ o (what-a-tick-does h)
       either false h = ap (λ (z : Controller). isIdle (z .session .state)) (what-a-refused-tick-does h) ∙ o
 
   pub which-tick-ends-a-charge : isCharging (c .session .state) ≡ true
-      → isCharging (after c (Beaten r v t old) .session .state) ≡ not (accepts r v t old && leavesFor why)
+      → isCharging (after c (TickMade r v t old) .session .state) ≡ not (accepts r v t old && leavesFor why)
   which-tick-ends-a-charge o = either (accepts r v t old) refl
     where
-      either : (b : Bool) → accepts r v t old ≡ b → isCharging (after c (Beaten r v t old) .session .state) ≡ not (b && leavesFor why)
+      either : (b : Bool) → accepts r v t old ≡ b → isCharging (after c (TickMade r v t old) .session .state) ≡ not (b && leavesFor why)
       either true h = leads-charging (c .settings) r (cellsOf v t) why (c .session .state) _ o (what-a-tick-does h)
       either false h = ap (λ (z : Controller). isCharging (z .session .state)) (what-a-refused-tick-does h) ∙ o

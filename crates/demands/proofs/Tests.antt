@@ -1,10 +1,6 @@
--- Laws of tests joined by `_&&_`, `_||_` and `cond`. Assumes nothing.
+-- Laws of tests joined by `_||_` and `cond`. Assumes nothing.
 use mathlib.Core.Path.{_≡_, refl, sym}
-use mathlib.Core.Bool.{Bool, true, false, cond, _&&_, _||_, false≢true}
-
-pub and-false : (a b : Bool) → a ≡ true → (a && b) ≡ false → b ≡ false
-and-false true b h e = e
-and-false false b h e = absurd (false≢true h)
+use mathlib.Core.Bool.{Bool, true, false, cond, _||_, false≢true}
 
 pub or-left : (a b : Bool) → a ≡ true → (a || b) ≡ true
 or-left a b h = rw h
@@ -23,3 +19,8 @@ first false u v h e = absurd (false≢true h)
 pub second : (t u v : Bool) → t ≡ false → cond t u v ≡ true → v ≡ true
 second true u v h e = absurd (false≢true (sym h))
 second false u v h e = e
+
+-- both ways of a test come to the same
+pub same : {A B : Type 0} (f : A → B) (t : Bool) {x y : A} {z : B} → f x ≡ z → f y ≡ z → f (cond t x y) ≡ z
+same f true h k = h
+same f false h k = k

@@ -1,111 +1,56 @@
--- Demand 3, second half: charge messages never change a broadcast, a cell answer or the number that a query is given. Assumes nothing.
+-- Demand 3, second half: charge messages never change a broadcast, a cell answer or the number that a query is given.
+-- Assumes nothing.
 use Prim.Native.Nat.{ℕ}
-use mathlib.Core.Path.{_≡_, refl, ap, sym, subst, _∙_}
+use mathlib.Core.Path.{_≡_, refl, ap, sym, _∙_}
 use mathlib.Core.Bool.{Bool, true, false, cond, false≢true}
 use mathlib.Core.List.{List, [], _∷_, _++_}
-use lib.Dec.{ltb}
 use lib.IntN.{ℤ}
-use lib.ListN.{length}
-use Rattle.messages.specs.declared.received.Query.{Query}
-use Rattle.messages.specs.declared.received.Message.the-variants as message
-use Rattle.messages.specs.declared.received.Recognized.{Recognized}
-use Rattle.messages.specs.declared.received.Recognized.the-variants as recognized
-use Rattle.messages.specs.Identifier.{partsOf}
-use Rattle.messages.specs.Received.{recognizedOf, rowOf}
-use Rattle.settings.specs.declared.Settings.{Settings}
 use Rattle.settings.specs.declared.SettingsRead.{SettingsRead}
 use Rattle.settings.specs.declared.SettingsRead.the-variants as read
 use Rattle.settings.specs.Read.{readOf}
 use Rattle.readings.specs.declared.Readings.{Readings}
-use Rattle.charge_messages.specs.declared.Content.{Content}
-use Rattle.charge_messages.specs.declared.Content.the-variants as content
-use Rattle.charge_messages.specs.Content.{contentOf}
-use Rattle.session.specs.declared.Session.{Session}
-use Rattle.broadcasts.specs.declared.beat.Beat.{Beat}
-use Rattle.queries.specs.declared.Queries.{Queries}
+use Rattle.messages.specs.Identifier.{partsOf}
+use Rattle.queries.specs.Asking.{askedOf}
 use Rattle.controller.specs.declared.Controller.{Controller}
 use Rattle.controller.specs.declared.Answer.{Answer}
-use Rattle.refusals.specs.Frame.{notCan, flagsSet, notForUs, badSource}
-use Rattle.controller.specs.Frame.{refused, mayCharge, withSession, contentTaken, chargeTo, withQueries, queryTo, messageTo, knownTo, frameTo}
+use Rattle.controller.specs.Frame.{kindOf, frameTo}
 use Rattle.controller.specs.Tick.{broadcastFrames, cellFrames}
+use Rattle.demands.specs.With.{withSession}
 use Rattle.demands.specs.Machine.{paperNext}
-use Rattle.demands.specs.Apart.{Event, Came, Beaten, Wrote, Reread, accepts, readInto, after, chargeIn, isCharge}
-use Rattle.demands.specs.Unmoved.{charging, others, Said, broadcastsAt, cellsAt, saidAt, said, Beside}
-use Rattle.demands.proofs.Apart.{made, choice, choices}
+use Rattle.demands.specs.Events.{Event, FrameReceived, TickMade, RecordWritten, RecordRead, accepts, readInto, after, isCharge}
+use Rattle.demands.specs.Unmoved.{isChargeMessage, others, Output, broadcastsAt, cellsAt, outputAt, outputs, Beside}
+use Rattle.demands.proofs.FrameTo.{sessionMoved, queriesMoved}
+use Rattle.demands.proofs.View.{View, Refused, Asks, Charges, view}
+use Rattle.demands.proofs.Comes.{Comes, Left, Took, came}
 
--- ---- a charge message leaves all but the session
-module _ (c : Controller) where
-  abbrev Stays : Answer → Type 0
-  Stays a = Beside (a .controller) c
-
-  as-it-was : Beside c c
-  as-it-was = record { settings = refl; beat = refl; queries = refl }
-
-  stays-content : (source : ℕ) (k : Content) → Stays (contentTaken c source k)
-  unfolding contentTaken withSession
-  stays-content source (content.Allowed m) = record { settings = refl; beat = refl; queries = refl }
-  stays-content source (content.Refused n) = as-it-was
-
-  stays-known : (source : ℕ) (r : Recognized) (l : List ℕ) → chargeIn r ≡ true → Stays (knownTo c source r l)
-  unfolding knownTo messageTo chargeTo chargeIn
-  stays-known source (recognized.As (message.Charge k)) l h =
-      choice Stays (ltb (length l) (rowOf (message.Charge k) .2)) _ _ (λ t. as-it-was)
-      (λ t. choice Stays (mayCharge c source) _ _ (λ m. stays-content source (contentOf k l)) (λ m. as-it-was))
-  stays-known source (recognized.As (message.Query k)) l h = absurd (false≢true h)
-  stays-known source (recognized.Refused n) l h = absurd (false≢true h)
-
-  charge-stays : (id : ℕ) (l : List ℕ) → isCharge id ≡ true → Stays (frameTo c id l)
-  unfolding frameTo isCharge
-  charge-stays id l h =
-      choice Stays (notCan id l) _ _ (λ t. as-it-was)
-      (λ t. choice Stays (flagsSet (partsOf id)) _ _ (λ t. as-it-was)
-      (λ t. choice Stays (notForUs (c .settings .own) (partsOf id)) _ _ (λ t. as-it-was)
-      (λ t. choice Stays (badSource (c .settings .own) (partsOf id)) _ _ (λ t. as-it-was)
-      (λ t. stays-known (partsOf id .source) (recognizedOf (partsOf id .pf)) l h))))
+-- ---- a charge message leaves all but the session: it is refused, or the session takes it
+charge-leaves : (c : Controller) (id : ℕ) (l : List ℕ) (a : Answer) → Comes c id l a → isCharge id ≡ true → Beside (a .controller) c
+unfolding sessionMoved
+charge-leaves c id l a (Left u e n) h = rw (n h .answer)
+charge-leaves c id l a (Took m says may e) h = rw e
 
 -- ---- any other frame does the same whatever the session is
-record Same (a b : Answer) : Type 0 where
+record BesideAfter (a b : Answer) : Type 0 where
   beside : Beside (a .controller) (b .controller)
   number : a .number ≡ b .number
 
-module _ (x : Settings) (s z : Session) (b : Beat) (q : Queries) where
-  abbrev left : Controller
-  left = made x s b q
-
-  abbrev right : Controller
-  right = made x z b q
-
-  refuses : (n : ℕ) → Same (refused n left) (refused n right)
-  refuses n = record { beside = record { settings = refl; beat = refl; queries = refl }; number = refl }
-
-  asks : (source : ℕ) (k : Query) → Same (queryTo left source k) (queryTo right source k)
-  unfolding queryTo withQueries
-  asks source k = record { beside = record { settings = refl; beat = refl; queries = refl }; number = refl }
-
-  knows : (source : ℕ) (r : Recognized) (l : List ℕ) → chargeIn r ≡ false → Same (knownTo left source r l) (knownTo right source r l)
-  unfolding knownTo messageTo chargeIn
-  knows source (recognized.As (message.Charge k)) l h = absurd (false≢true (sym h))
-  knows source (recognized.As (message.Query k)) l h =
-      choices Same (ltb (length l) (rowOf (message.Query k) .2)) _ _ _ _ (refuses 8) (asks source k)
-  knows source (recognized.Refused n) l h = refuses n
-
-  frames-same : (id : ℕ) (l : List ℕ) → isCharge id ≡ false → Same (frameTo left id l) (frameTo right id l)
-  unfolding frameTo isCharge
-  frames-same id l h =
-      choices Same (notCan id l) _ _ _ _ (refuses 3)
-      (choices Same (flagsSet (partsOf id)) _ _ _ _ (refuses 4)
-      (choices Same (notForUs (x .own) (partsOf id)) _ _ _ _ (refuses 5)
-      (choices Same (badSource (x .own) (partsOf id)) _ _ _ _ (refuses 6)
-      (knows (partsOf id .source) (recognizedOf (partsOf id .pf)) l h))))
-
--- ---- two controllers that agree beside their sessions go on so, and say the same
+-- ---- two controllers that agree beside their sessions go on so, and the same comes out
 module _ (c d : Controller) (a : Beside c d) where
-  same-frame : (id : ℕ) (l : List ℕ) → isCharge id ≡ false → Same (frameTo c id l) (frameTo d id l)
-  same-frame id l h =
-      subst (λ (x : Settings). Same (frameTo c id l) (frameTo (made x (d .session) (d .beat) (d .queries)) id l)) (a .settings)
-      (subst (λ (b : Beat). Same (frameTo c id l) (frameTo (made (c .settings) (d .session) b (d .queries)) id l)) (a .beat)
-      (subst (λ (q : Queries). Same (frameTo c id l) (frameTo (made (c .settings) (d .session) (c .beat) q) id l)) (a .queries)
-      (frames-same (c .settings) (c .session) (d .session) (c .beat) (c .queries) id l h)))
+  same-own : d .settings .own ≡ c .settings .own
+  same-own = sym (ap (λ (z : Controller). z .settings .own) a)
+
+  -- by the cases of the view: refused, and a query; a charge message it is not
+  by-case : (id : ℕ) (l : List ℕ) → View (c .settings .own) id l → isCharge id ≡ false → BesideAfter (frameTo c id l) (frameTo d id l)
+  unfolding queriesMoved
+  by-case id l (Refused n h each) f = rw (each c refl, each d same-own) (record { beside = a; number = refl })
+  by-case id l (Asks q h each) f =
+      let asked : Controller → Answer = λ z. queriesMoved z (askedOf (z .queries) (partsOf id .source) (kindOf q)) in
+      rw (each c refl, each d same-own)
+      (record { beside = ap (λ (z : Controller). asked z .controller) a; number = ap (λ (z : Controller). asked z .number) a })
+  by-case id l (Charges k h p each) f = absurd (false≢true (sym f ∙ h))
+
+  same-frame : (id : ℕ) (l : List ℕ) → isCharge id ≡ false → BesideAfter (frameTo c id l) (frameTo d id l)
+  same-frame id l = by-case id l (view (c .settings .own) id l)
 
   beside-choice : (t : Bool) (p q : Controller) → Beside p q → Beside (cond t p c) (cond t q d)
   beside-choice true p q h = h
@@ -113,72 +58,71 @@ module _ (c d : Controller) (a : Beside c d) where
 
   beside-next : (r : Readings) (v : List ℕ) (t : List ℤ) → Beside (paperNext c r v t) (paperNext d r v t)
   unfolding paperNext
-  beside-next r v t = record { settings = a .settings; beat = rw (a .beat); queries = rw (a .queries) }
+  beside-next r v t = ap (λ (z : Controller). withSession (paperNext z r v t) (paperNext d r v t .session)) a
 
   beside-read : (s : SettingsRead) → Beside (readInto s c) (readInto s d)
   unfolding readInto
-  beside-read (read.Read x) = record { settings = refl; beat = refl; queries = refl }
+  beside-read (read.Read x) = refl
   beside-read (read.Refused n) = a
 
-  beside-event : (e : Event) → charging e ≡ false → Beside (after c e) (after d e)
-  unfolding after charging
-  beside-event (Came id s) h = same-frame id s h .beside
-  beside-event (Beaten r v t old) h = beside-choice (accepts r v t old) _ _ (beside-next r v t)
-  beside-event (Wrote old) h = a
-  beside-event (Reread s) h = beside-read (readOf s)
+  beside-event : (e : Event) → isChargeMessage e ≡ false → Beside (after c e) (after d e)
+  unfolding after isChargeMessage
+  beside-event (FrameReceived id s) h = same-frame id s h .beside
+  beside-event (TickMade r v t old) h = beside-choice (accepts r v t old) _ _ (beside-next r v t)
+  beside-event (RecordWritten old) h = a
+  beside-event (RecordRead s) h = beside-read (readOf s)
 
   same-broadcasts : (r : Readings) (v : List ℕ) (t : List ℤ) → broadcastFrames c r v t ≡ broadcastFrames d r v t
   unfolding broadcastFrames
-  same-broadcasts r v t = rw (a .settings, a .beat)
+  same-broadcasts r v t = ap (λ (z : Controller). broadcastFrames z r v t) a
 
   same-cells : (r : Readings) (v : List ℕ) (t : List ℤ) → cellFrames c r v t ≡ cellFrames d r v t
   unfolding cellFrames
-  same-cells r v t = rw (a .settings, a .queries)
+  same-cells r v t = ap (λ (z : Controller). cellFrames z r v t) a
 
-  same-said : (e : Event) → charging e ≡ false → saidAt c e ≡ saidAt d e
-  unfolding saidAt broadcastsAt cellsAt charging
-  same-said (Came id s) h = rw (h, same-frame id s h .number)
-  same-said (Beaten r v t old) h = rw (same-broadcasts r v t, same-cells r v t)
-  same-said (Wrote old) h = refl
-  same-said (Reread s) h = refl
+  same-output : (e : Event) → isChargeMessage e ≡ false → outputAt c e ≡ outputAt d e
+  unfolding outputAt broadcastsAt cellsAt isChargeMessage
+  same-output (FrameReceived id s) h = rw (h, same-frame id s h .number)
+  same-output (TickMade r v t old) h = rw (same-broadcasts r v t, same-cells r v t)
+  same-output (RecordWritten old) h = refl
+  same-output (RecordRead s) h = refl
 
--- a charge message is not said
-unsaid : (c : Controller) (e : Event) → charging e ≡ true → saidAt c e ≡ []
-unfolding saidAt charging
-unsaid c (Came id s) h = rw h
-unsaid c (Beaten r v t old) h = absurd (false≢true h)
-unsaid c (Wrote old) h = absurd (false≢true h)
-unsaid c (Reread s) h = absurd (false≢true h)
+-- nothing comes out beside the session by a charge message
+no-output : (c : Controller) (e : Event) → isChargeMessage e ≡ true → outputAt c e ≡ []
+unfolding outputAt isChargeMessage
+no-output c (FrameReceived id s) h = rw h
+no-output c (TickMade r v t old) h = absurd (false≢true h)
+no-output c (RecordWritten old) h = absurd (false≢true h)
+no-output c (RecordRead s) h = absurd (false≢true h)
 
-unmoved-by : (c : Controller) (e : Event) → charging e ≡ true → Beside (after c e) c
-unfolding after charging
-unmoved-by c (Came id s) h = charge-stays c id s h
-unmoved-by c (Beaten r v t old) h = absurd (false≢true h)
-unmoved-by c (Wrote old) h = absurd (false≢true h)
-unmoved-by c (Reread s) h = absurd (false≢true h)
+unmoved-by : (c : Controller) (e : Event) → isChargeMessage e ≡ true → Beside (after c e) c
+unfolding after isChargeMessage
+unmoved-by c (FrameReceived id s) h = charge-leaves c id s (frameTo c id s) (came c id s) h
+unmoved-by c (TickMade r v t old) h = absurd (false≢true h)
+unmoved-by c (RecordWritten old) h = absurd (false≢true h)
+unmoved-by c (RecordRead s) h = absurd (false≢true h)
 
 then : (c d e : Controller) → Beside c d → Beside d e → Beside c e
-then c d e a b =
-    record { settings = a .settings ∙ b .settings; beat = a .beat ∙ b .beat; queries = a .queries ∙ b .queries }
+then c d e a b = ap (λ (z : Controller). withSession z (e .session)) a ∙ b
 
 abbrev Deaf : List Event → Type 0
-Deaf es = (c d : Controller) → Beside c d → said c es ≡ said d (others es)
+Deaf es = (c d : Controller) → Beside c d → outputs c es ≡ outputs d (others es)
 
-one-more : (e : Event) (es : List Event) → Deaf es → (c d : Controller) → Beside c d → (t : Bool) → charging e ≡ t
-    → saidAt c e ++ said (after c e) es ≡ said d (cond t (others es) (e ∷ others es))
-unfolding said
+one-more : (e : Event) (es : List Event) → Deaf es → (c d : Controller) → Beside c d → (t : Bool) → isChargeMessage e ≡ t
+    → outputAt c e ++ outputs (after c e) es ≡ outputs d (cond t (others es) (e ∷ others es))
+unfolding outputs
 one-more e es ih c d a true h =
-    ap (λ (l : List Said). l ++ said (after c e) es) (unsaid c e h) ∙ ih (after c e) d (then (after c e) c d (unmoved-by c e h) a)
+    ap (λ (l : List Output). l ++ outputs (after c e) es) (no-output c e h) ∙ ih (after c e) d (then (after c e) c d (unmoved-by c e h) a)
 one-more e es ih c d a false h =
-    ap (λ (l : List Said). l ++ said (after c e) es) (same-said c d a e h)
-    ∙ ap (λ (l : List Said). saidAt d e ++ l) (ih (after c e) (after d e) (beside-event c d a e h))
+    ap (λ (l : List Output). l ++ outputs (after c e) es) (same-output c d a e h)
+    ∙ ap (λ (l : List Output). outputAt d e ++ l) (ih (after c e) (after d e) (beside-event c d a e h))
 
 deaf : (es : List Event) → Deaf es
-unfolding said others
+unfolding outputs others
 deaf [] c d a = refl
-deaf (e ∷ es) c d a = one-more e es (deaf es) c d a (charging e) refl
+deaf (e ∷ es) c d a = one-more e es (deaf es) c d a (isChargeMessage e) refl
 
--- two controllers that agree beside their sessions, and two lists of events that differ only in charge messages: the same broadcasts, the
--- same cell answers and the same numbers to queries
-pub unmoved : (c d : Controller) (ks ls : List Event) → Beside c d → others ks ≡ others ls → said c ks ≡ said d ls
-unmoved c d ks ls a h = deaf ks c d a ∙ (ap (said d) h ∙ sym (deaf ls d d (record { settings = refl; beat = refl; queries = refl })))
+-- two controllers that agree beside their sessions, and two lists of events that differ only in charge messages: the
+-- same broadcasts, the same cell answers and the same numbers to queries
+pub unmoved : (c d : Controller) (ks ls : List Event) → Beside c d → others ks ≡ others ls → outputs c ks ≡ outputs d ls
+unmoved c d ks ls a h = deaf ks c d a ∙ (ap (outputs d) h ∙ sym (deaf ls d d refl))

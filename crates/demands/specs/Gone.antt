@@ -1,4 +1,5 @@
--- "An EST has gone out since entry" (01, "Session by message", Stopping), told by the frames that the calls of a run have sent.
+-- "An EST has gone out since entry" (01, "Session by message", Stopping), told by the frames that the calls of a run
+-- have sent. For `est-gone`, `what-ends-a-session`, `each-ends-a-session` and `early-acknowledgement`.
 use mathlib.Core.Bool.{Bool, false, _&&_, _||_}
 use mathlib.Core.List.{List, [], _∷_}
 use lib.Dec.{eqb}
@@ -6,8 +7,8 @@ use Rattle.messages.specs.Table.{EST}
 use Rattle.messages.specs.Identifier.{identifierOf}
 use Rattle.frames.specs.declared.Frame.{Frame}
 use Rattle.controller.specs.declared.Controller.{Controller}
-use Rattle.demands.specs.Machine.{On, paperNext, seenOf, framesSeen}
-use Rattle.demands.specs.Apart.{Event, callOf, after}
+use Rattle.demands.specs.Machine.{Using, paperNext, seenOf, framesSeen}
+use Rattle.demands.specs.Events.{Event, callOf, after}
 use Rattle.demands.specs.Kinds.{isStopping}
 
 -- among the frames is our EST to the session's station
@@ -17,9 +18,10 @@ holdsEst c (f ∷ fs) = eqb (f .id) (identifierOf EST (c .session .station) (c .
 
 -- the event sends one
 unfoldable pub sendsEst : Controller → Event → Bool
-sendsEst c e = holdsEst c (framesSeen (seenOf paperNext (On c) (callOf e)))
+sendsEst c e = holdsEst c (framesSeen (seenOf paperNext (Using c) (callOf e)))
 
--- after one event more: the session is in Stopping, and one had gone out while it was in Stopping before, or goes out now
+-- after one event more: the session is in Stopping, and one had gone out while it was in Stopping before, or goes out
+-- now
 unfoldable pub goneAfter : Bool → Controller → Event → Bool
 goneAfter gone c e = isStopping (after c e .session .state) && ((isStopping (c .session .state) && gone) || sendsEst c e)
 

@@ -1,24 +1,20 @@
--- Demand 2, the code's controller beside the paper's. The code's counts go back where no test of the paper can tell; `codeOf` says which
--- controller of the code stands for one with the paper's counts. It is the same but for those counts.
+-- Demand 2, the code's controller beside the paper's. The code's counts go back where no test of the paper can tell;
+-- `codeOf` says which controller of the code stands for one with the paper's counts. It is the same but for those
+-- counts. For `demand-2` and `demand-2-of-calls`.
 use Prim.Native.Nat.{_%_}
 use mathlib.Core.Path.{_≡_}
-use Rattle.session_paper_counts.specs.Folds.{folds}
+use Rattle.literal.specs.Folds.{folds}
 use Rattle.controller.specs.declared.Controller.{Controller}
-use Rattle.demands.specs.Machine.{Box, Off, On}
+use Rattle.demands.specs.With.{withSession, withBeat}
+use Rattle.demands.specs.Machine.{Box, NoController, Using}
 
 -- the session's counts folded, the number of accepted ticks modulo 60, settings and waiting queries the same
 unfoldable pub codeOf : Controller → Controller
-codeOf c =
-    record {
-      settings = c .settings;
-      session = folds (c .session);
-      beat = record { tick = c .beat .tick % 60 };
-      queries = c .queries;
-    }
+codeOf c = withBeat (withSession c (folds (c .session))) (record { tick = c .beat .tick % 60 })
 
 unfoldable pub codeBox : Box → Box
-codeBox Off = Off
-codeBox (On c) = On (codeOf c)
+codeBox NoController = NoController
+codeBox (Using c) = Using (codeOf c)
 
 -- the second box stands for the first
 abbrev pub InStep : Box → Box → Type 0

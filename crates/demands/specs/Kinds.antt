@@ -1,7 +1,7 @@
 -- The states by their kind (01, "Session by message").
 use mathlib.Core.Bool.{Bool, true, false}
-use Rattle.session_states.specs.declared.states.State.{State}
-use Rattle.session_states.specs.declared.states.State.the-variants.{Idle, Offered, Unverified, Parameters, Ready, Charging, Stopping, Error}
+use Rattle.states.specs.declared.State.{State}
+use Rattle.states.specs.declared.State.the-variants.{Idle, Offered, Unverified, Parameters, Ready, Charging, Stopping, Error}
 
 unfoldable pub isCharging : State → Bool
 isCharging Idle = false

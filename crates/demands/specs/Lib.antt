@@ -1,8 +1,12 @@
+pub mod Limits
+pub mod With
 pub mod Machine
 pub mod InStep
 pub mod Calls
 pub mod WorkedRows
+pub mod Events
 pub mod Kinds
+pub mod Checks
 pub mod Says
 pub mod Ends
 pub mod Over
@@ -12,6 +16,6 @@ pub mod Gone
 pub mod Silent
 pub mod SilentSlips
 pub mod Unmoved
-pub mod Asked
+pub mod Requests
 pub mod Since
 pub mod Reach

@@ -1,6 +1,8 @@
--- The paper's machine over any list of calls (01, "What the box does", "Numbers returned"). A controller's rules for a frame, for what a tick sends
--- and for settings are the definitions that the entry points promise; how counts go on is the paper's: the number of accepted
--- ticks, a state's count, silence and a phase's time are one more after each accepted tick, for ever.
+-- The paper's machine over any list of calls (01, "What the box does", "Numbers returned"). A controller's rules for a
+-- frame, for what a tick sends and for settings are the definitions that the entry points promise; how counts go on is
+-- the paper's: the number of accepted ticks, a state's count, silence and a phase's time are one more after each
+-- accepted tick, for ever. For `demand-2` and `demand-2-of-calls`; all that is said of events is said of this machine
+-- too (`after-is`, `seen-tick`, `seen-frame`, `in-use`).
 use Prim.Native.Nat.{ℕ, _+_, _*_}
 use mathlib.Core.Bool.{cond}
 use mathlib.Core.List.{List, [], _∷_, _++_}
@@ -14,7 +16,7 @@ use Rattle.settings.specs.Read.{recordNumber}
 use Rattle.settings.specs.Write.{writtenOf, laterOf}
 use Rattle.queries.specs.Waiting.{waiting, queriesOf}
 use Rattle.queries.specs.Answering as answering
-use Rattle.session_paper_counts.specs.Literal.{literalTick}
+use Rattle.literal.specs.Literal.{literalTick}
 use Rattle.controller.specs.declared.Controller.{Controller}
 use Rattle.controller.specs.declared.Start.{Start}
 use Rattle.controller.specs.declared.Start.the-variants.{Made, Refused}
@@ -22,9 +24,10 @@ use Rattle.controller.specs.Start.{startOf}
 use Rattle.controller.specs.Frame.{frameTo}
 use Rattle.refusals.specs.Tick.{tickNumber}
 use Rattle.controller.specs.Tick.{tickFrames, accepted}
+use Rattle.demands.specs.With.{withSession, withBeat, withQueries}
 
--- a call, with all that it lends: a settings record; a received frame, identifier and data; a tick, its readings, voltages and
--- temperatures and the buffer as it is; settings written, with the buffer as it is
+-- a call, with all that it lends: a settings record; a received frame, identifier and data; a tick, its readings,
+-- voltages and temperatures and the buffer as it is; settings written, with the buffer as it is
 pub data Call : Type 0 where
   Read : List ℕ → Call
   Receive : ℕ → List ℕ → Call
@@ -33,11 +36,11 @@ pub data Call : Type 0 where
 
 -- no controller yet, or the one in use
 pub data Box : Type 0 where
-  Off : Box
-  On : Controller → Box
+  NoController : Box
+  Using : Controller → Box
 
--- what a call gives back: the number, the bytes written, the frames sent, and the later contents of the lent buffer (of a call that
--- lends none, none). Without a controller there is nothing to call
+-- what a call gives back: the number, the bytes written, the frames sent, and the later contents of the lent buffer (of
+-- a call that lends none, none). Without a controller there is nothing to call
 pub data Seen : Type 0 where
   Nothing : Seen
   Gave : ℕ → ℕ → List Frame → List ℕ → Seen
@@ -45,40 +48,37 @@ pub data Seen : Type 0 where
 -- the next controller after an accepted tick, as the paper counts
 unfoldable pub paperNext : Controller → Readings → List ℕ → List ℤ → Controller
 paperNext c r v t =
-    record {
-      settings = c .settings;
-      session = literalTick (c .settings) r (cellsOf v t) (c .session);
-      beat = record { tick = c .beat .tick + 1 };
-      queries = queriesOf (answering.laterOf v t (waiting (c .queries)));
-    }
+    withQueries
+    (withBeat (withSession c (literalTick (c .settings) r (cellsOf v t) (c .session))) (record { tick = c .beat .tick + 1 }))
+    (queriesOf (answering.laterOf v t (waiting (c .queries))))
 
 -- a settings record that is refused yields no controller: the one in use stays
 unfoldable pub started : Start → Box → Box
-started (Made c) b = On c
+started (Made c) b = Using c
 started (Refused n) b = b
 
 -- how a controller goes on after an accepted tick is the one difference between the paper's machine and the code's
 module _ (next : Controller → Readings → List ℕ → List ℤ → Controller) where
   unfoldable pub boxAfter : Box → Call → Box
   boxAfter b (Read s) = started (startOf s) b
-  boxAfter Off (Receive id s) = Off
-  boxAfter (On c) (Receive id s) = On (frameTo c id s .controller)
-  boxAfter Off (Tick r v t old) = Off
-  boxAfter (On c) (Tick r v t old) = On (cond (accepted c r v t (length old)) (next c r v t) c)
+  boxAfter NoController (Receive id s) = NoController
+  boxAfter (Using c) (Receive id s) = Using (frameTo c id s .controller)
+  boxAfter NoController (Tick r v t old) = NoController
+  boxAfter (Using c) (Tick r v t old) = Using (cond (accepted c r v t (length old)) (next c r v t) c)
   boxAfter b (Write old) = b
 
   unfoldable pub seenOf : Box → Call → Seen
   seenOf b (Read s) = Gave (recordNumber s) 0 [] []
-  seenOf Off (Receive id s) = Nothing
-  seenOf (On c) (Receive id s) = Gave (frameTo c id s .number) 0 [] []
-  seenOf Off (Tick r v t old) = Nothing
-  seenOf (On c) (Tick r v t old) =
+  seenOf NoController (Receive id s) = Nothing
+  seenOf (Using c) (Receive id s) = Gave (frameTo c id s .number) 0 [] []
+  seenOf NoController (Tick r v t old) = Nothing
+  seenOf (Using c) (Tick r v t old) =
       cond (accepted c r v t (length old))
       (Gave 0 (13 * length (tickFrames c r v t)) (tickFrames c r v t)
       (recordsOf (tickFrames c r v t) ++ drop (13 * length (tickFrames c r v t)) old))
       (Gave (tickNumber r v t (length old)) 0 [] old)
-  seenOf Off (Write old) = Nothing
-  seenOf (On c) (Write old) =
+  seenOf NoController (Write old) = Nothing
+  seenOf (Using c) (Write old) =
       Gave (writtenOf (c .settings) old .number) (writtenOf (c .settings) old .bytes) [] (laterOf (c .settings) old)
 
   -- a run: all that is seen, and the box that is left

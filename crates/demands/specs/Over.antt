@@ -1,20 +1,17 @@
--- What a frame means once its session is over: nothing, unless it opens the next. The vocabulary of proofs/Over.antt, after 01, "Session by
--- message": "Idle: CIM from a listed station opens Offered with it."
+-- What a frame means once its session is over: nothing, unless it opens the next (01, "Session by message": "Idle: CIM
+-- from a listed station opens Offered with it"). For `over`, `each-opens` and `replayed-acknowledgement`.
 use Prim.Native.Nat.{ℕ}
 use mathlib.Core.Path.{_≡_}
 use mathlib.Core.Bool.{true}
 use mathlib.Core.List.{List}
-use Rattle.messages.specs.declared.received.Charge.{Charge}
-use Rattle.messages.specs.declared.received.Message.the-variants as message
-use Rattle.messages.specs.declared.received.Recognized.the-variants.{As}
 use Rattle.messages.specs.Identifier.{partsOf}
-use Rattle.messages.specs.Received.{recognizedOf}
 use Rattle.charge_messages.specs.declared.ChargeMessage.the-variants.{Cim}
-use Rattle.session_states.specs.declared.states.State.the-variants.{Offered}
+use Rattle.states.specs.declared.State.the-variants.{Offered}
 use Rattle.session.specs.declared.Session.{Session}
 use Rattle.controller.specs.declared.Controller.{Controller}
 use Rattle.refusals.specs.Frame.{listed}
 use Rattle.controller.specs.Frame.{frameTo}
+use Rattle.demands.specs.Events.{isCharge}
 use Rattle.demands.specs.Says.{Says}
 
 -- a session just opened with a station
@@ -31,4 +28,4 @@ pub record Opens (c : Controller) (id : ℕ) (s : List ℕ) : Type 0 where
 -- the session is as it was, and where the frame is a charge message its number is not 0
 pub record Ignored (c : Controller) (id : ℕ) (s : List ℕ) : Type 0 where
   pub session : frameTo c id s .controller .session ≡ c .session
-  pub number : (k : Charge) → recognizedOf (partsOf id .pf) ≡ As (message.Charge k) → frameTo c id s .number ≡ 0 → ⊥
+  pub number : isCharge id ≡ true → frameTo c id s .number ≡ 0 → ⊥

@@ -1,6 +1,8 @@
--- A session cannot be kept from Charging by others: what it is for a station whose CIM was taken to follow the handshake (01, "Session by
--- message"). It goes in stretches, each ended by one frame of the station: until its CVM; if that was 00, until its CVM AA; until its last CMP;
--- until its CRM AA. In each it may repeat itself and say other things besides, in any number and order.
+-- A session cannot be kept from Charging by others: what it is for a station whose CIM was taken to follow the
+-- handshake (01, "Session by message"). It goes in stretches, each ended by one frame of the station: until its CVM; if
+-- that was 00, until its CVM AA; until its last CMP; until its CRM AA. In each it may repeat itself and say other
+-- things besides, in any number and order. For `reaches-charging` and `from-cim-to-charging`, and the runs
+-- `eight-are-enough` and `busy-charges` to which they apply.
 use Prim.Native.Nat.{ℕ, _+_, _≤_, _<_}
 use mathlib.Core.Path.{_≡_}
 use mathlib.Core.Bool.{Bool, true, false, not, _&&_}
@@ -13,12 +15,13 @@ use Rattle.readings.specs.Readings.{wantedOf}
 use Rattle.charge_messages.specs.declared.Offer.{Offer}
 use Rattle.charge_messages.specs.declared.ChargeMessage.{ChargeMessage}
 use Rattle.charge_messages.specs.declared.ChargeMessage.the-variants.{Cim, Cvm, Cmp, Crm, Ccs, Cst, Cem}
-use Rattle.session_states.specs.Phases.{startPhase}
-use Rattle.session_states.specs.declared.states.State.the-variants.{Charging}
-use Rattle.session_by_message.specs.Offer.{acceptedOf, stationMost}
-use Rattle.session_by_message.specs.Message.{goneOut}
+use Rattle.phases.specs.Phases.{startPhase}
+use Rattle.states.specs.declared.State.the-variants.{Charging}
+use Rattle.outcomes.specs.Offer.{acceptedOf, stationMost}
+use Rattle.outcomes.specs.Message.{goneOut}
 use Rattle.session.specs.declared.Session.{Session}
-use Rattle.demands.specs.Apart.{Event, Came, Beaten, Wrote, Reread, accepts, isRead}
+use Rattle.demands.specs.Limits.{silenceLimit, firstEcp}
+use Rattle.demands.specs.Events.{Event, FrameReceived, TickMade, RecordWritten, RecordRead, accepts, isRead}
 use Rattle.demands.specs.Says.{Says}
 
 -- the session where Charging begins, with the offer of the station's last CMP
@@ -32,9 +35,10 @@ pub data Stretch : Type 0 where
   UntilCmp : Stretch
   UntilCrm : Stretch
 
--- What the station may say besides, `n` accepted ticks into a stretch, in the order of "Session by message": what does nothing, what stays, and what
--- is refused there as out of step. Not CST and CEM, by which it would stop or end the session, and not what would move the handshake on at another
--- place than is meant. A CIM after Offered goes by `Passing`
+-- What the station may say besides, `n` accepted ticks into a stretch, in the order of "Session by message": what does
+-- nothing, what stays, and what is refused there as out of step. Not CST and CEM, by which it would stop or end the
+-- session, and not what would move the handshake on at another place than is meant. A CIM after Offered goes by
+-- `Passing`
 unfoldable pub besides : Stretch → ℕ → ChargeMessage → Bool
 -- Offered: CIM does nothing. CVM is taken once an EIM AA has gone out; besides, it may come as long as none has
 besides UntilCvm n Cim = true
@@ -52,15 +56,17 @@ besides UntilVerified n (Crm b) = true
 besides UntilVerified n (Ccs b) = true
 besides UntilVerified n (Cst b) = false
 besides UntilVerified n Cem = false
--- Parameters, and Ready up to the last CMP: each CMP may come. In Ready CRM AA may be taken; besides, it may come as long as no ECP has gone out
+-- Parameters, and Ready up to the last CMP: each CMP may come. In Ready CRM AA may be taken; besides, it may come as
+-- long as no ECP has gone out
 besides UntilCmp n Cim = false
 besides UntilCmp n (Cvm b) = true
 besides UntilCmp n (Cmp o) = true
-besides UntilCmp n (Crm b) = not (b && goneOut 5 n)
+besides UntilCmp n (Crm b) = not (b && goneOut firstEcp n)
 besides UntilCmp n (Ccs b) = true
 besides UntilCmp n (Cst b) = false
 besides UntilCmp n Cem = false
--- Ready, since the last CMP: CRM is taken if an ERM AA has gone out since that CMP, and 00 and FF stay; besides, AA may come as long as none has
+-- Ready, since the last CMP: CRM is taken if an ERM AA has gone out since that CMP, and 00 and FF stay; besides, AA may
+-- come as long as none has
 besides UntilCrm n Cim = false
 besides UntilCrm n (Cvm b) = true
 besides UntilCrm n (Cmp o) = false
@@ -69,35 +75,36 @@ besides UntilCrm n (Ccs b) = true
 besides UntilCrm n (Cst b) = false
 besides UntilCrm n Cem = false
 
--- what may come at any time, and leaves silence alone: a frame by which the station says no charge message (another's, a cell query, or one that 3
--- to 10 refuse) or only a CIM; a refused tick; settings written; a settings record that is refused
+-- what may come at any time, and leaves silence alone: a frame by which the station says no charge message (another's,
+-- a cell query, or one that 3 to 10 refuse) or only a CIM; a refused tick; settings written; a settings record that is
+-- refused
 unfoldable pub Passing : Settings → ℕ → Event → Type 0
-Passing x st (Came id s) = (m : ChargeMessage) → Says x st m id s → m ≡ Cim
-Passing x st (Beaten r v t old) = accepts r v t old ≡ false
-Passing x st (Wrote old) = Unit {0}
-Passing x st (Reread s) = isRead (readOf s) ≡ false
+Passing x st (FrameReceived id s) = (m : ChargeMessage) → Says x st m id s → m ≡ Cim
+Passing x st (TickMade r v t old) = accepts r v t old ≡ false
+Passing x st (RecordWritten old) = Unit {0}
+Passing x st (RecordRead s) = isRead (readOf s) ≡ false
 
 -- the station `st` of a controller with the settings `x`; `o` is the offer of its last CMP
 module _ (x : Settings) (st : ℕ) (o : Offer) where
-  -- over a list of events, from a place `n` accepted ticks into a stretch and `b` after the station was last heard, the station follows the
-  -- handshake up to its CRM AA
+  -- over a list of events, from a place `n` accepted ticks into a stretch and `b` after the station was last heeded,
+  -- the station follows the handshake up to its CRM AA
   pub data Follows : Stretch → ℕ → ℕ → List Event → Type 0 where
     Passes : {k : Stretch} {n b : ℕ} {e : Event} {es : List Event} → Passing x st e → Follows k n b es → Follows k n b (e ∷ es)
-    -- an accepted tick: charge is wanted, and fewer than 200 have gone by since the station was last heard
+    -- an accepted tick: charge is wanted, and fewer than 200 have gone by since the station was last heeded
     Ticks : {k : Stretch} {n b : ℕ} {r : Readings} {v : List ℕ} {t : List ℤ} {old : List ℕ} {es : List Event}
-        → accepts r v t old ≡ true → wantedOf r ≡ true → b < 200
-        → Follows k (n + 1) (b + 1) es → Follows k n b (Beaten r v t old ∷ es)
+        → accepts r v t old ≡ true → wantedOf r ≡ true → b < silenceLimit
+        → Follows k (n + 1) (b + 1) es → Follows k n b (TickMade r v t old ∷ es)
     Speaks : {k : Stretch} {n b id : ℕ} {s : List ℕ} {m : ChargeMessage} {es : List Event}
-        → Says x st m id s → besides k n m ≡ true → Follows k n 0 es → Follows k n b (Came id s ∷ es)
+        → Says x st m id s → besides k n m ≡ true → Follows k n 0 es → Follows k n b (FrameReceived id s ∷ es)
     -- after at least 1 tick CVM: 00, and AA at any time later, or AA at once
     Delays : {n b id : ℕ} {s : List ℕ} {es : List Event}
-        → Says x st (Cvm false) id s → 1 ≤ n → Follows UntilVerified 0 0 es → Follows UntilCvm n b (Came id s ∷ es)
+        → Says x st (Cvm false) id s → 1 ≤ n → Follows UntilVerified 0 0 es → Follows UntilCvm n b (FrameReceived id s ∷ es)
     VerifiesLater : {n b id : ℕ} {s : List ℕ} {es : List Event}
-        → Says x st (Cvm true) id s → Follows UntilCmp 0 0 es → Follows UntilVerified n b (Came id s ∷ es)
+        → Says x st (Cvm true) id s → Follows UntilCmp 0 0 es → Follows UntilVerified n b (FrameReceived id s ∷ es)
     Verifies : {n b id : ℕ} {s : List ℕ} {es : List Event}
-        → Says x st (Cvm true) id s → 1 ≤ n → Follows UntilCmp 0 0 es → Follows UntilCvm n b (Came id s ∷ es)
+        → Says x st (Cvm true) id s → 1 ≤ n → Follows UntilCmp 0 0 es → Follows UntilCvm n b (FrameReceived id s ∷ es)
     -- after at least 6 ticks a CMP that the yes rule accepts
     Offers : {n b id : ℕ} {s : List ℕ} {es : List Event}
-        → Says x st (Cmp o) id s → acceptedOf x o ≡ true → 6 ≤ n → Follows UntilCrm 0 0 es → Follows UntilCmp n b (Came id s ∷ es)
+        → Says x st (Cmp o) id s → acceptedOf x o ≡ true → firstEcp + 1 ≤ n → Follows UntilCrm 0 0 es → Follows UntilCmp n b (FrameReceived id s ∷ es)
     -- after at least 1 tick CRM AA
-    Starts : {n b id : ℕ} {s : List ℕ} → Says x st (Crm true) id s → 1 ≤ n → Follows UntilCrm n b (Came id s ∷ [])
+    Starts : {n b id : ℕ} {s : List ℕ} → Says x st (Crm true) id s → 1 ≤ n → Follows UntilCrm n b (FrameReceived id s ∷ [])

@@ -1,23 +1,21 @@
--- A frame, identifier and data, by which a source says a charge message: none of the checks 3 to 8 refuses it, and its content is allowed, so
--- 10 does not either (01, "Numbers returned"). Whether the source may say it, 9, and whether it is in step, 11, is the controller's part.
+-- A frame, identifier and data, by which a source says a charge message: none of the checks 3 to 8 refuses it, and its
+-- content is allowed, so 10 does not either (01, "Numbers returned"). Whether the source may say it, 9, and whether it
+-- is in step, 11, is the controller's part. For every statement in which a station says something:
+-- `what-ends-a-session`, `what-ends-a-charge`, `over`, `within-801`, `reaches-charging`.
 use Prim.Native.Nat.{ℕ}
 use mathlib.Core.Path.{_≡_}
-use mathlib.Core.Bool.{false}
 use mathlib.Core.List.{List}
-use lib.Dec.{ltb}
-use lib.ListN.{length}
 use Rattle.messages.specs.declared.received.Charge.{Charge}
 use Rattle.messages.specs.declared.received.Charge.the-variants as charge
 use Rattle.messages.specs.declared.received.Message.the-variants as message
 use Rattle.messages.specs.declared.received.Recognized.the-variants.{As}
 use Rattle.messages.specs.Identifier.{partsOf}
-use Rattle.messages.specs.Received.{recognizedOf, rowOf}
 use Rattle.settings.specs.declared.Settings.{Settings}
 use Rattle.charge_messages.specs.declared.ChargeMessage.{ChargeMessage}
 use Rattle.charge_messages.specs.declared.ChargeMessage.the-variants.{Cim, Cvm, Cmp, Crm, Ccs, Cst, Cem}
 use Rattle.charge_messages.specs.declared.Content.the-variants.{Allowed}
 use Rattle.charge_messages.specs.Content.{contentOf}
-use Rattle.refusals.specs.Frame.{notCan, flagsSet, notForUs, badSource}
+use Rattle.demands.specs.Checks.{messageIn}
 
 -- the row of the table that a message has
 abbrev pub chargeOf : ChargeMessage → Charge
@@ -31,11 +29,8 @@ chargeOf Cem = charge.Cem
 
 -- the source `st` says `m` to a controller with the settings `x`
 pub record Says (x : Settings) (st : ℕ) (m : ChargeMessage) (id : ℕ) (s : List ℕ) : Type 0 where
-  pub can : notCan id s ≡ false
-  pub flags : flagsSet (partsOf id) ≡ false
-  pub target : notForUs (x .own) (partsOf id) ≡ false
-  pub other : badSource (x .own) (partsOf id) ≡ false
+  -- 3 to 8
+  pub checks : messageIn (x .own) id s ≡ As (message.Charge (chargeOf m))
   pub source : partsOf id .source ≡ st
-  pub pf : recognizedOf (partsOf id .pf) ≡ As (message.Charge (chargeOf m))
-  pub long : ltb (length s) (rowOf (message.Charge (chargeOf m)) .2) ≡ false
+  -- 10
   pub content : contentOf (chargeOf m) s ≡ Allowed m

@@ -1,20 +1,24 @@
--- A session whose station falls silent ends within 801 accepted ticks (01, "What a reader can rely on"). Silence is the paper's: the station need
--- not be still, it says nothing that the session heeds.
-use Prim.Native.Nat.{ℕ, zero, suc, _+_, _≤_}
+-- A session whose station falls silent ends within 801 accepted ticks (01, "What a reader can rely on"). Silence is the
+-- paper's: the station need not be still, it says nothing that the session heeds. For `within-801`, `silent-station`
+-- and `eight-hundred-are-not-enough`; that the table is what messages do: `unfed-refused` and `fed-silence`.
+use Prim.Native.Nat.{ℕ, _+_, _≤_}
 use mathlib.Core.Path.{_≡_}
-use mathlib.Core.Bool.{Bool, true, false, not, cond, _&&_, _||_}
+use mathlib.Core.Bool.{Bool, true, false, not, cond, _&&_}
 use mathlib.Core.List.{List, [], _∷_}
 use Rattle.charge_messages.specs.declared.ChargeMessage.{ChargeMessage}
 use Rattle.charge_messages.specs.declared.ChargeMessage.the-variants.{Cim, Cvm, Cmp, Crm, Ccs, Cst, Cem}
-use Rattle.session_states.specs.declared.states.State.{State}
-use Rattle.session_states.specs.declared.states.State.the-variants.{Idle, Offered, Unverified, Parameters, Ready, Charging, Stopping, Error}
+use Rattle.states.specs.declared.State.{State}
+use Rattle.states.specs.declared.State.the-variants.{Idle, Offered, Unverified, Parameters, Ready, Charging, Stopping, Error}
 use Rattle.controller.specs.declared.Controller.{Controller}
-use Rattle.demands.specs.Apart.{Event, Came, Beaten, Wrote, Reread, accepts, after, ended, fromStation}
+use Rattle.demands.specs.Limits.{silenceLimit, closingLimit}
+use Rattle.demands.specs.Events.{Event, FrameReceived, TickMade, RecordWritten, RecordRead, accepts, after, noSession, endsWithin}
+use Rattle.demands.specs.Apart.{fromStation}
 use Rattle.demands.specs.Says.{Says}
 
--- Which charge messages of its station a session heeds, by its state (01, "Session by message", and number 11). In Offered every one, the CIM that
--- does nothing and those out of step too; from there to Ready every one, "unless it is a CIM"; in Charging "only CCS", and CST and CEM, by which it
--- leaves Charging; in Stopping CST and CEM; in Error CEM. In Idle there is no session. All others are silence
+-- Which charge messages of its station a session heeds, by its state (01, "Session by message", and number 11). In
+-- Offered every one, the CIM that does nothing and those out of step too; from there to Ready every one, "unless it is
+-- a CIM"; in Charging "only CCS", and CST and CEM, by which it leaves Charging; in Stopping CST and CEM; in Error CEM.
+-- In Idle there is no session. All others are silence
 unfoldable pub feeds : State → ChargeMessage → Bool
 feeds Idle m = false
 feeds Offered m = true
@@ -61,56 +65,47 @@ feeds Error (Ccs b) = false
 feeds Error (Cst b) = false
 feeds Error Cem = true
 
--- an event by which the session's station says nothing that the session heeds. By another's frame, a cell query, and a frame that 3 to 10 refuse, it
--- says nothing at all
-unfoldable pub Unheard : Controller → Event → Type 0
-Unheard c (Came id s) =
+-- an event by which the session's station says nothing that the session heeds. By another's frame, a cell query, and a
+-- frame that 3 to 10 refuse, it says nothing at all
+unfoldable pub Unheeded : Controller → Event → Type 0
+Unheeded c (FrameReceived id s) =
     (m : ChargeMessage) → Says (c .settings) (c .session .station) m id s → feeds (c .session .state) m ≡ false
-Unheard c (Beaten r v t old) = Unit {0}
-Unheard c (Wrote old) = Unit {0}
-Unheard c (Reread s) = Unit {0}
+Unheeded c (TickMade r v t old) = Unit {0}
+Unheeded c (RecordWritten old) = Unit {0}
+Unheeded c (RecordRead s) = Unit {0}
 
--- as long as there is a session, its station is unheard
+-- as long as there is a session, nothing that its station says is heeded
 unfoldable pub Silence : Controller → List Event → Type 0
 Silence c [] = Unit {0}
-Silence c (e ∷ es) = ended c ≡ false → Unheard c e × Silence (after c e) es
+Silence c (e ∷ es) = noSession c ≡ false → Unheeded c e × Silence (after c e) es
 
 -- a station that falls still altogether: no frame has `st` as its source part, but for cell queries
 unfoldable pub quietAt : ℕ → Event → Bool
-quietAt st (Came id s) = not (fromStation st id)
-quietAt st (Beaten r v t old) = true
-quietAt st (Wrote old) = true
-quietAt st (Reread s) = true
+quietAt st (FrameReceived id s) = not (fromStation st id)
+quietAt st (TickMade r v t old) = true
+quietAt st (RecordWritten old) = true
+quietAt st (RecordRead s) = true
 
 unfoldable pub sendsNothing : ℕ → List Event → Bool
 sendsNothing st [] = true
 sendsNothing st (e ∷ es) = quietAt st e && sendsNothing st es
 
 -- the ticks that are accepted
-unfoldable pub ticked : Event → Bool
-ticked (Came id s) = false
-ticked (Beaten r v t old) = accepts r v t old
-ticked (Wrote old) = false
-ticked (Reread s) = false
+unfoldable pub isAcceptedTick : Event → Bool
+isAcceptedTick (FrameReceived id s) = false
+isAcceptedTick (TickMade r v t old) = accepts r v t old
+isAcceptedTick (RecordWritten old) = false
+isAcceptedTick (RecordRead s) = false
 
 unfoldable pub ticksIn : List Event → ℕ
 ticksIn [] = 0
-ticksIn (e ∷ es) = cond (ticked e) 1 0 + ticksIn es
-
--- there is no session at some place of the list: before it, between two events or after the last
-unfoldable pub endsWithin : Controller → List Event → Bool
-endsWithin c [] = ended c
-endsWithin c (e ∷ es) = ended c || endsWithin (after c e) es
-
--- the same event so many times
-unfoldable pub repeated : ℕ → Event → List Event
-repeated zero e = []
-repeated (suc n) e = e ∷ repeated n e
+ticksIn (e ∷ es) = cond (isAcceptedTick e) 1 0 + ticksIn es
 
 -- a session whose station falls silent has ended by so many accepted ticks, whatever others send
 abbrev pub EndsBy : ℕ → Type 0
 EndsBy n = (c : Controller) (es : List Event) → Silence c es → n ≤ ticksIn es → endsWithin c es ≡ true
 
--- "within 801 accepted ticks"
+-- "within 801 accepted ticks": silence runs up to its limit, the next tick enters Error, and its count runs up to its
+-- own
 abbrev pub longest : ℕ
-longest = 801
+longest = silenceLimit + 1 + closingLimit

@@ -1,5 +1,5 @@
--- Two slips to shut out (01): "letting CRM feed the silence count in Charging, or a restarted station's CIM hold a session open in Parameters". The
--- vocabulary of proofs/SilentSlips.antt.
+-- Two slips to shut out (01): "letting CRM feed the silence count in Charging, or a restarted station's CIM hold a
+-- session open in Parameters". For `cim-holds-nothing` and `crm-holds-nothing`.
 use Prim.Native.Nat.{ℕ}
 use mathlib.Core.Path.{_≡_}
 use mathlib.Core.Bool.{Bool, true, false}
@@ -7,7 +7,7 @@ use mathlib.Core.List.{List, [], _∷_}
 use Rattle.settings.specs.declared.Settings.{Settings}
 use Rattle.charge_messages.specs.declared.ChargeMessage.{ChargeMessage}
 use Rattle.charge_messages.specs.declared.ChargeMessage.the-variants.{Cim, Cvm, Cmp, Crm, Ccs, Cst, Cem}
-use Rattle.demands.specs.Apart.{Event, Came, Beaten, Wrote, Reread}
+use Rattle.demands.specs.Events.{Event, FrameReceived, TickMade, RecordWritten, RecordRead}
 use Rattle.demands.specs.Says.{Says}
 
 unfoldable pub isCim : ChargeMessage → Bool
@@ -32,7 +32,7 @@ isHandshake Cem = false
 -- over a list of events the station `st` says these charge messages and no others, as often as it likes
 unfoldable pub SaysOnly : (ChargeMessage → Bool) → Settings → ℕ → List Event → Type 0
 SaysOnly these x st [] = Unit {0}
-SaysOnly these x st (Came id s ∷ es) = ((m : ChargeMessage) → Says x st m id s → these m ≡ true) × SaysOnly these x st es
-SaysOnly these x st (Beaten r v t old ∷ es) = SaysOnly these x st es
-SaysOnly these x st (Wrote old ∷ es) = SaysOnly these x st es
-SaysOnly these x st (Reread s ∷ es) = SaysOnly these x st es
+SaysOnly these x st (FrameReceived id s ∷ es) = ((m : ChargeMessage) → Says x st m id s → these m ≡ true) × SaysOnly these x st es
+SaysOnly these x st (TickMade r v t old ∷ es) = SaysOnly these x st es
+SaysOnly these x st (RecordWritten old ∷ es) = SaysOnly these x st es
+SaysOnly these x st (RecordRead s ∷ es) = SaysOnly these x st es

@@ -1,12 +1,12 @@
--- "Over any sequence of calls from the start" (demand 2): every controller in use is a fresh one after a run of events, so what is shown of runs from
--- a fresh controller holds after any calls.
+-- "Over any sequence of calls from the start" (demand 2): every controller in use is a fresh one after a run of events,
+-- so what is shown of runs from a fresh controller holds after any calls. For `in-use`.
 use mathlib.Core.Path.{_≡_}
 use mathlib.Core.List.{List}
 use Rattle.settings.specs.declared.Settings.{Settings}
 use Rattle.controller.specs.declared.Controller.{Controller}
 use Rattle.controller.specs.Start.{freshOf}
-use Rattle.demands.specs.Machine.{Box, Off, On}
-use Rattle.demands.specs.Apart.{Event, afterAll}
+use Rattle.demands.specs.Machine.{Box, NoController, Using}
+use Rattle.demands.specs.Events.{Event, afterAll}
 
 -- settings of which a fresh controller was made, and the events since
 pub record Since (c : Controller) : Type 0 where
@@ -15,5 +15,5 @@ pub record Since (c : Controller) : Type 0 where
   pub run : afterAll (freshOf settings) events ≡ c
 
 unfoldable pub InUse : Box → Type 0
-InUse Off = Unit {0}
-InUse (On c) = Since c
+InUse NoController = Unit {0}
+InUse (Using c) = Since c

@@ -1,5 +1,6 @@
--- "Exactly which tick ends or stops a session, and why": what a tick makes of each state, by the first of the paper's rules that holds (01,
--- "Session by tick"). The vocabulary of proofs/Stops.antt.
+-- "Exactly which tick ends or stops a session, and why": what a tick makes of each state, by the first of the paper's
+-- rules that holds (01, "Session by tick"). For `what-a-tick-does`, `what-a-refused-tick-does` and
+-- `what-a-tick-does-in-idle`, and for `which-tick-ends-a-session` and `which-tick-ends-a-charge`.
 use Prim.Native.Nat.{ℕ, _/_}
 use mathlib.Core.Path.{_≡_}
 use mathlib.Core.Bool.{Bool, true, false, cond, _&&_, _||_}
@@ -8,62 +9,64 @@ use Rattle.settings.specs.declared.Settings.{Settings}
 use Rattle.readings.specs.declared.Readings.{Readings}
 use Rattle.readings.specs.Readings.{wantedOf, aboveOf}
 use Rattle.cells.specs.declared.Cells.{Cells}
-use Rattle.session_states.specs.declared.phases.Phase.{Phase}
-use Rattle.session_states.specs.declared.phases.Phase.the-variants.{Drive, Rest, Hold}
-use Rattle.session_states.specs.declared.phases.Cause.{Cause}
-use Rattle.session_states.specs.declared.phases.Cause.the-variants.{PackVoltage, HoldCell, Other}
-use Rattle.session_states.specs.declared.phases.Turned.{Turned}
-use Rattle.session_states.specs.declared.phases.Turned.the-variants as turned
-use Rattle.session_states.specs.Phases.{turnedOf}
-use Rattle.session_states.specs.declared.states.State.{State}
-use Rattle.session_states.specs.declared.states.State.the-variants.{Idle, Offered, Unverified, Parameters, Ready, Charging, Stopping, Error}
-use Rattle.session_by_tick.specs.Turns.{cellFull, packFull, estOf, estThen}
+use Rattle.phases.specs.declared.Phase.{Phase}
+use Rattle.phases.specs.declared.Phase.the-variants.{Drive, Rest, Hold}
+use Rattle.phases.specs.declared.Cause.{Cause}
+use Rattle.phases.specs.declared.Cause.the-variants.{PackVoltage, HoldCell, Other}
+use Rattle.phases.specs.declared.Turned.{Turned}
+use Rattle.phases.specs.declared.Turned.the-variants as turned
+use Rattle.phases.specs.Phases.{turnedOf}
+use Rattle.states.specs.declared.State.{State}
+use Rattle.states.specs.declared.State.the-variants.{Idle, Offered, Unverified, Parameters, Ready, Charging, Stopping, Error}
+use Rattle.turns.specs.Turns.{cellFull, packFull, estOf, estThen}
 use Rattle.session.specs.declared.Session.{Session}
-use Rattle.session_paper_counts.specs.Literal.{older}
+use Rattle.literal.specs.Literal.{older}
+use Rattle.demands.specs.Limits.{silenceLimit, closingLimit, driveLimit, restLimit, holdLimit, leastRequest, mostDrives}
 
 -- the rule that holds, or that none does
 pub data Why : Type 0 where
   GoesOn : Why
   -- Offered to Charging: silence 200 enters Error
-  Silence : Why
+  AtSilenceLimit : Why
   -- Offered to Ready: charge is not wanted
-  Unwanted : Why
-  -- Charging: charge is not wanted; current above maximum; pack voltage at or above maximum; a Drive or a Hold has had its time; a cell at or
-  -- above maximum in Hold
-  NotWanted : Why
+  NotWantedBefore : Why
+  -- Charging: charge is not wanted; current above maximum; pack voltage at or above maximum; a Drive or a Hold has had
+  -- its time; a cell at or above maximum in Hold
+  NotWantedCharging : Why
   CurrentAbove : Why
   PackFull : Why
   TimeUp : Why
   CellFull : Why
   -- Stopping and Error end at count 600
-  Count600 : Why
+  AtClosingLimit : Why
 
 -- a Drive or a Hold has had its 18000 ticks
 unfoldable pub timeUp : Phase → Bool
-timeUp (Drive request cycle time) = leb 18000 time
+timeUp (Drive request cycle time) = leb driveLimit time
 timeUp (Rest request cycle time) = false
-timeUp (Hold time) = leb 18000 time
+timeUp (Hold time) = leb holdLimit time
 
--- the tick is one of Hold: Hold goes on, or a Rest has had its 6000 ticks and Hold follows, its half being under 60 or six Drives done
+-- the tick is one of Hold: Hold goes on, or a Rest has had its 6000 ticks and Hold follows, its half being under 60 or
+-- six Drives done
 unfoldable pub inHold : Phase → Bool
 inHold (Drive request cycle time) = false
-inHold (Rest request cycle time) = leb 6000 time && (ltb (request / 2) 60 || leb 6 cycle)
+inHold (Rest request cycle time) = leb restLimit time && (ltb (request / 2) leastRequest || leb mostDrives cycle)
 inHold (Hold time) = true
 
 module _ (x : Settings) (r : Readings) (c : Cells) where
   abbrev pub whyWaiting : ℕ → Why
-  whyWaiting silence = cond (leb 200 silence) Silence (cond (wantedOf r) GoesOn Unwanted)
+  whyWaiting silence = cond (leb silenceLimit silence) AtSilenceLimit (cond (wantedOf r) GoesOn NotWantedBefore)
 
   abbrev pub whyCharging : ℕ → Phase → Why
   whyCharging silence p =
-      cond (leb 200 silence) Silence
+      cond (leb silenceLimit silence) AtSilenceLimit
       (cond (wantedOf r)
       (cond (aboveOf (r .current) (x .current)) CurrentAbove
       (cond (packFull x r) PackFull (cond (timeUp p) TimeUp (cond (inHold p && cellFull x c) CellFull GoesOn))))
-      NotWanted)
+      NotWantedCharging)
 
   abbrev pub whyClosing : ℕ → Why
-  whyClosing count = cond (leb 600 count) Count600 GoesOn
+  whyClosing count = cond (leb closingLimit count) AtClosingLimit GoesOn
 
   unfoldable pub whyIn : ℕ → ℕ → State → Why
   whyIn count silence Idle = GoesOn
@@ -83,7 +86,8 @@ module _ (x : Settings) (r : Readings) (c : Cells) where
   ChargesAs (turned.On p) to = to ≡ Charging (older p)
   ChargesAs (turned.Stop cause) to = ⊥
 
-  -- where no rule holds the state is as it was, but that Charging goes on by its phase, and Stopping has its EST bytes fixed by now
+  -- where no rule holds the state is as it was, but that Charging goes on by its phase, and Stopping has its EST bytes
+  -- fixed by now
   unfoldable pub GoesOnAs : State → State → Type 0
   GoesOnAs Idle to = to ≡ Idle
   GoesOnAs Offered to = to ≡ Offered
@@ -101,35 +105,36 @@ module _ (x : Settings) (r : Readings) (c : Cells) where
   -- the state that each leads to
   unfoldable pub LeadsTo : State → Why → State → Type 0
   LeadsTo from GoesOn to = GoesOnAs from to
-  LeadsTo from Silence to = to ≡ Error
-  LeadsTo from Unwanted to = to ≡ Idle
-  LeadsTo from NotWanted to = to ≡ stoppedFor Other
+  LeadsTo from AtSilenceLimit to = to ≡ Error
+  LeadsTo from NotWantedBefore to = to ≡ Idle
+  LeadsTo from NotWantedCharging to = to ≡ stoppedFor Other
   LeadsTo from CurrentAbove to = to ≡ stoppedFor Other
   LeadsTo from PackFull to = to ≡ stoppedFor PackVoltage
   LeadsTo from TimeUp to = to ≡ stoppedFor Other
   LeadsTo from CellFull to = to ≡ stoppedFor HoldCell
-  LeadsTo from Count600 to = to ≡ Idle
+  LeadsTo from AtClosingLimit to = to ≡ Idle
 
 -- which of them end a session
 unfoldable pub endsFor : Why → Bool
 endsFor GoesOn = false
-endsFor Silence = false
-endsFor Unwanted = true
-endsFor NotWanted = false
+endsFor AtSilenceLimit = false
+endsFor NotWantedBefore = true
+endsFor NotWantedCharging = false
 endsFor CurrentAbove = false
 endsFor PackFull = false
 endsFor TimeUp = false
 endsFor CellFull = false
-endsFor Count600 = true
+endsFor AtClosingLimit = true
 
--- which take a session out of Charging, to Error or to Stopping; the two that end a session are of other states, and leave theirs
+-- which take a session out of Charging, to Error or to Stopping; the two that end a session are of other states, and
+-- leave theirs
 unfoldable pub leavesFor : Why → Bool
 leavesFor GoesOn = false
-leavesFor Silence = true
-leavesFor Unwanted = true
-leavesFor NotWanted = true
+leavesFor AtSilenceLimit = true
+leavesFor NotWantedBefore = true
+leavesFor NotWantedCharging = true
 leavesFor CurrentAbove = true
 leavesFor PackFull = true
 leavesFor TimeUp = true
 leavesFor CellFull = true
-leavesFor Count600 = true
+leavesFor AtClosingLimit = true

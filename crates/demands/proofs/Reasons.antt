@@ -1,5 +1,5 @@
--- What a tick makes of each state, by the first of the paper's rules that holds: the reason of specs/Stops.antt leads where it says. Assumes
--- nothing.
+-- What a tick makes of each state, by the first of the paper's rules that holds: the reason of specs/Stops.antt leads
+-- where it says. Assumes nothing.
 use Prim.Native.Nat.{ℕ, _/_}
 use mathlib.Core.Path.{_≡_, refl, subst}
 use mathlib.Core.Bool.{Bool, true, false, cond, _&&_, _||_}
@@ -8,21 +8,22 @@ use Rattle.settings.specs.declared.Settings.{Settings}
 use Rattle.readings.specs.declared.Readings.{Readings}
 use Rattle.readings.specs.Readings.{wantedOf, aboveOf}
 use Rattle.cells.specs.declared.Cells.{Cells}
-use Rattle.session_states.specs.declared.phases.Phase.{Phase}
-use Rattle.session_states.specs.declared.phases.Phase.the-variants.{Drive, Rest, Hold}
-use Rattle.session_states.specs.declared.phases.Cause.the-variants.{PackVoltage, HoldCell, Other}
-use Rattle.session_states.specs.declared.phases.Turned.{Turned}
-use Rattle.session_states.specs.declared.phases.Turned.the-variants as turned
-use Rattle.session_states.specs.Phases.{driveRules, holdRules, afterRest, turnedOf}
-use Rattle.session_states.specs.declared.states.State.{State}
-use Rattle.session_states.specs.declared.states.State.the-variants.{Idle, Offered, Unverified, Parameters, Ready, Charging, Stopping, Error}
-use Rattle.session_by_tick.specs.declared.Turn.{Turn}
-use Rattle.session_by_tick.specs.declared.Turn.the-variants.{On, Enter, Farewell, End}
-use Rattle.session_by_tick.specs.Turns.{cellFull, packFull, stopOf, waitingOf, phaseOn, phaseTurn, stopsOf, chargingOf, stoppingOf, errorOf, turnOf}
+use Rattle.phases.specs.declared.Phase.{Phase}
+use Rattle.phases.specs.declared.Phase.the-variants.{Drive, Rest, Hold}
+use Rattle.phases.specs.declared.Cause.the-variants.{PackVoltage, HoldCell, Other}
+use Rattle.phases.specs.declared.Turned.{Turned}
+use Rattle.phases.specs.declared.Turned.the-variants as turned
+use Rattle.phases.specs.Phases.{driveRules, holdRules, afterRest, turnedOf}
+use Rattle.states.specs.declared.State.{State}
+use Rattle.states.specs.declared.State.the-variants.{Idle, Offered, Unverified, Parameters, Ready, Charging, Stopping, Error}
+use Rattle.turns.specs.declared.Turn.{Turn}
+use Rattle.turns.specs.declared.Turn.the-variants.{On, Enter, Farewell, End}
+use Rattle.turns.specs.Turns.{cellFull, packFull, stopOf, waitingOf, phaseOn, phaseTurn, stopsOf, chargingOf, stoppingOf, errorOf, turnOf}
 use Rattle.session.specs.declared.Session.{Session}
 use Rattle.session.specs.Tick.{turnedBy, turnIn}
-use Rattle.session_paper_counts.specs.Literal.{grown, counted, literalIn, literalAdvance, literalTick}
-use Rattle.demands.specs.Stops.{Why, GoesOn, Silence, Unwanted, NotWanted, CurrentAbove, PackFull, TimeUp, CellFull, Count600}
+use Rattle.literal.specs.Literal.{grown, counted, literalIn, literalAdvance, literalTick}
+use Rattle.demands.specs.Limits.{silenceLimit, closingLimit, driveLimit, restLimit, holdLimit, leastRequest, mostDrives}
+use Rattle.demands.specs.Stops.{Why, GoesOn, AtSilenceLimit, NotWantedBefore, NotWantedCharging, CurrentAbove, PackFull, TimeUp, CellFull, AtClosingLimit}
 use Rattle.demands.specs.Stops.{timeUp, inHold, whyIn, whyOf, ChargesAs, GoesOnAs, LeadsTo}
 
 -- ---- what a phase comes to
@@ -63,9 +64,9 @@ rest-why true false false false request cycle d = refl
 
 phase-why : (p : Phase) (full : Bool) → turnedWhy (turnedOf p full) ≡ phaseWhy (timeUp p) (inHold p && full)
 unfolding turnedOf driveRules holdRules afterRest timeUp inHold
-phase-why (Drive request cycle time) full = drive-why (leb 18000 time) full _ _
-phase-why (Rest request cycle time) full = rest-why (leb 6000 time) (ltb (request / 2) 60) (leb 6 cycle) full _ _ _
-phase-why (Hold time) full = hold-why (leb 18000 time) full _
+phase-why (Drive request cycle time) full = drive-why (leb driveLimit time) full _ _
+phase-why (Rest request cycle time) full = rest-why (leb restLimit time) (ltb (request / 2) leastRequest) (leb mostDrives cycle) full _ _ _
+phase-why (Hold time) full = hold-why (leb holdLimit time) full _
 
 -- ---- what a tick comes to
 module _ (x : Settings) (r : Readings) (c : Cells) (s : Session) where
@@ -74,7 +75,7 @@ module _ (x : Settings) (r : Readings) (c : Cells) (s : Session) where
   reached t = literalAdvance (turnedBy s t) .state
 
   wait-why : (st : State) (late wanted : Bool) → GoesOnAs x r c st (reached (On st))
-      → LeadsTo x r c st (cond late Silence (cond wanted GoesOn Unwanted)) (reached (cond late (Enter Error) (cond wanted (On st) Farewell)))
+      → LeadsTo x r c st (cond late AtSilenceLimit (cond wanted GoesOn NotWantedBefore)) (reached (cond late (Enter Error) (cond wanted (On st) Farewell)))
   unfolding LeadsTo reached turnedBy literalAdvance literalIn counted
   wait-why st true wanted h = refl
   wait-why st false true h = h
@@ -82,7 +83,7 @@ module _ (x : Settings) (r : Readings) (c : Cells) (s : Session) where
 
   charge-why : (p : Phase) (late wanted above full : Bool) (t : Turned) → turnedOf p (cellFull x c) ≡ t
       → LeadsTo x r c (Charging p)
-      (cond late Silence (cond wanted (cond above CurrentAbove (cond full PackFull (turnedWhy t))) NotWanted))
+      (cond late AtSilenceLimit (cond wanted (cond above CurrentAbove (cond full PackFull (turnedWhy t))) NotWantedCharging))
       (reached
       (cond late (Enter Error)
       (cond wanted (cond above (stopOf x r c Other) (cond full (stopOf x r c PackVoltage) (phaseOn x r c t))) (stopOf x r c Other))))
@@ -97,7 +98,7 @@ module _ (x : Settings) (r : Readings) (c : Cells) (s : Session) where
   charge-why p false true false false (turned.Stop Other) e = refl
 
   close-why : (st to : State) (over : Bool) → GoesOnAs x r c st (reached (On to))
-      → LeadsTo x r c st (cond over Count600 GoesOn) (reached (cond over End (On to)))
+      → LeadsTo x r c st (cond over AtClosingLimit GoesOn) (reached (cond over End (On to)))
   unfolding LeadsTo reached turnedBy literalAdvance literalIn
   close-why st to true h = refl
   close-why st to false h = h
@@ -105,19 +106,19 @@ module _ (x : Settings) (r : Readings) (c : Cells) (s : Session) where
   turn-why : (n silence : ℕ) (st : State) → LeadsTo x r c st (whyIn x r c n silence st) (reached (turnOf x r c st n silence))
   unfolding whyIn LeadsTo GoesOnAs reached turnedBy literalAdvance literalIn grown counted turnOf waitingOf chargingOf stopsOf phaseTurn stoppingOf errorOf
   turn-why n silence Idle = refl
-  turn-why n silence Offered = wait-why Offered (leb 200 silence) (wantedOf r) refl
-  turn-why n silence Unverified = wait-why Unverified (leb 200 silence) (wantedOf r) refl
-  turn-why n silence Parameters = wait-why Parameters (leb 200 silence) (wantedOf r) refl
-  turn-why n silence (Ready y most) = wait-why (Ready y most) (leb 200 silence) (wantedOf r) refl
+  turn-why n silence Offered = wait-why Offered (leb silenceLimit silence) (wantedOf r) refl
+  turn-why n silence Unverified = wait-why Unverified (leb silenceLimit silence) (wantedOf r) refl
+  turn-why n silence Parameters = wait-why Parameters (leb silenceLimit silence) (wantedOf r) refl
+  turn-why n silence (Ready y most) = wait-why (Ready y most) (leb silenceLimit silence) (wantedOf r) refl
   turn-why n silence (Charging p) =
       subst (λ (w : Why). LeadsTo x r c (Charging p)
-      (cond (leb 200 silence) Silence
-      (cond (wantedOf r) (cond (aboveOf (r .current) (x .current)) CurrentAbove (cond (packFull x r) PackFull w)) NotWanted))
+      (cond (leb silenceLimit silence) AtSilenceLimit
+      (cond (wantedOf r) (cond (aboveOf (r .current) (x .current)) CurrentAbove (cond (packFull x r) PackFull w)) NotWantedCharging))
       (reached (turnOf x r c (Charging p) n silence)))
       (phase-why p (cellFull x c))
-      (charge-why p (leb 200 silence) (wantedOf r) (aboveOf (r .current) (x .current)) (packFull x r) (turnedOf p (cellFull x c)) refl)
-  turn-why n silence (Stopping k e) = close-why (Stopping k e) _ (leb 600 n) refl
-  turn-why n silence Error = close-why Error Error (leb 600 n) refl
+      (charge-why p (leb silenceLimit silence) (wantedOf r) (aboveOf (r .current) (x .current)) (packFull x r) (turnedOf p (cellFull x c)) refl)
+  turn-why n silence (Stopping k e) = close-why (Stopping k e) _ (leb closingLimit n) refl
+  turn-why n silence Error = close-why Error Error (leb closingLimit n) refl
 
   -- a tick leads where its reason says
   pub tick-why : LeadsTo x r c (s .state) (whyOf x r c s) (literalTick x r c s .state)

@@ -1,9 +1,10 @@
--- "Request R is the smaller of maximum current and the station's maximum": over any run, what a session asks for is never above the maximum current
--- of the settings in use; and tag 3 allows no more than 4000 (`read-in-range`, settings), so 4000 minus it is what ECR says. Assumes nothing.
+-- "Request R is the smaller of maximum current and the station's maximum": over any run, what a session asks for is
+-- never above the maximum current of the settings in use; and tag 3 allows no more than 4000 (`read-in-range`,
+-- settings), so 4000 minus it is what ECR says. Assumes nothing.
 use Prim.Native.Nat.{ℕ, _/_, _≤_}
 use native.Mathlib.Omega.{arith}
 use mathlib.Core.Path.{_≡_, refl, sym, ap, subst, _∙_}
-use mathlib.Core.Bool.{Bool, true, false, cond, _&&_}
+use mathlib.Core.Bool.{Bool, true, false, cond}
 use mathlib.Core.List.{List, [], _∷_}
 use lib.Dec.{leb, ltb}
 use lib.IntN.{ℤ}
@@ -17,34 +18,34 @@ use Rattle.readings.specs.declared.Readings.{Readings}
 use Rattle.readings.specs.Readings.{wantedOf, aboveOf}
 use Rattle.cells.specs.declared.Cells.{Cells}
 use Rattle.cells.specs.Summaries.{cellsOf}
-use Rattle.charge_messages.specs.declared.ChargeMessage.{ChargeMessage}
-use Rattle.charge_messages.specs.declared.ChargeMessage.the-variants.{Cim, Cvm, Cmp, Crm, Ccs, Cst, Cem}
-use Rattle.session_states.specs.declared.phases.Phase.{Phase}
-use Rattle.session_states.specs.declared.phases.Phase.the-variants.{Drive, Rest, Hold}
-use Rattle.session_states.specs.declared.phases.Turned.{Turned}
-use Rattle.session_states.specs.declared.phases.Turned.the-variants as turned
-use Rattle.session_states.specs.Phases.{lesserOf, startPhase, driveRules, holdRules, afterRest, turnedOf}
-use Rattle.session_states.specs.declared.states.State.{State}
-use Rattle.session_states.specs.declared.states.State.the-variants.{Idle, Offered, Unverified, Parameters, Ready, Charging, Stopping, Error}
-use Rattle.session_by_message.specs.declared.Outcome.{Outcome}
-use Rattle.session_by_message.specs.declared.Outcome.the-variants as outcome
-use Rattle.session_by_message.specs.Message.{outcomeOf, inIdle, inOffered, inUnverified, inParameters, inReady, readyOf, crmOf, inCharging, inStopping, inError}
-use Rattle.session_by_tick.specs.declared.Turn.{Turn}
-use Rattle.session_by_tick.specs.declared.Turn.the-variants as turn
-use Rattle.session_by_tick.specs.Turns.{cellFull, packFull, stopOf, waitingOf, phaseOn, phaseTurn, stopsOf, chargingOf, stoppingOf, errorOf, turnOf}
+use Rattle.phases.specs.declared.Phase.{Phase}
+use Rattle.phases.specs.declared.Phase.the-variants.{Drive, Rest, Hold}
+use Rattle.phases.specs.declared.Turned.{Turned}
+use Rattle.phases.specs.declared.Turned.the-variants as turned
+use Rattle.phases.specs.Phases.{lesserOf, startPhase, driveRules, holdRules, afterRest, turnedOf}
+use Rattle.states.specs.declared.State.{State}
+use Rattle.states.specs.declared.State.the-variants.{Idle, Offered, Unverified, Parameters, Ready, Charging, Stopping, Error}
+use Rattle.outcomes.specs.declared.Outcome.{Outcome}
+use Rattle.outcomes.specs.declared.Outcome.the-variants as outcome
+use Rattle.outcomes.specs.Message.{outcomeOf}
+use Rattle.turns.specs.declared.Turn.{Turn}
+use Rattle.turns.specs.declared.Turn.the-variants as turn
+use Rattle.turns.specs.Turns.{cellFull, packFull, stopOf, waitingOf, phaseOn, phaseTurn, stopsOf, chargingOf, stoppingOf, errorOf, turnOf}
 use Rattle.session.specs.declared.Session.{Session}
 use Rattle.session.specs.Message.{sessionAfter, appliedOf, messageOf}
 use Rattle.session.specs.Tick.{turnedBy, turnIn}
-use Rattle.session_paper_counts.specs.Literal.{older, grown, counted, literalIn, literalAdvance, literalTick}
+use Rattle.literal.specs.Literal.{older, grown, counted, literalIn, literalAdvance, literalTick}
 use Rattle.controller.specs.declared.Controller.{Controller}
 use Rattle.controller.specs.declared.Answer.{Answer}
 use Rattle.controller.specs.Start.{freshOf}
-use Rattle.controller.specs.Frame.{withSession, frameTo}
+use Rattle.controller.specs.Frame.{frameTo}
+use Rattle.demands.specs.Limits.{silenceLimit, closingLimit, driveLimit, restLimit, holdLimit, leastRequest, mostDrives}
 use Rattle.demands.specs.Machine.{paperNext}
-use Rattle.demands.specs.Apart.{Event, Came, Beaten, Wrote, Reread, accepts, readInto, after, afterAll}
-use Rattle.demands.specs.Asked.{requestOf, requestIn}
-use Rattle.demands.proofs.Came.{Comes, Unmoved, Took, came}
-use Rattle.demands.proofs.Apart.{kept-settings}
+use Rattle.demands.specs.Events.{Event, FrameReceived, TickMade, RecordWritten, RecordRead, accepts, readInto, after, afterAll}
+use Rattle.demands.specs.Requests.{requestOf, requestIn}
+use Rattle.demands.proofs.FrameTo.{sessionMoved}
+use Rattle.demands.proofs.Outcomes.{Leads, NotTaken, NotInStep, DoesNothing, OpensOne, ToUnverified, ToParameters, ToParametersLater, ToReady, ToReadyAgain, ToCharging, ToStopping, MarksIt, EndsIt, outcome-leads}
+use Rattle.demands.proofs.Comes.{Comes, Left, Took, came}
 
 -- ---- the start
 lesser-least : (a b : ℕ) (t : Bool) → leb a b ≡ t → cond t a b ≤ a
@@ -61,7 +62,7 @@ drive-is request = refl
 
 start-asks : (maximum station : ℕ) → requestOf (startPhase maximum station) ≤ maximum
 unfolding startPhase
-start-asks maximum station = either (ltb (lesserOf maximum station) 60)
+start-asks maximum station = either (ltb (lesserOf maximum station) leastRequest)
   where
     either : (t : Bool) → requestOf (cond t (Hold 0) (Drive (lesserOf maximum station) 1 0)) ≤ maximum
     either true = hold-asks maximum
@@ -79,68 +80,22 @@ module _ (x : Settings) (n : ℕ) where
   asksBy (outcome.Keep st) = requestIn st
   asksBy outcome.End = 0
 
-  either : (t : Bool) (a b : Outcome) → asksBy a ≤ x .current → asksBy b ≤ x .current → asksBy (cond t a b) ≤ x .current
-  either true a b h k = h
-  either false a b h k = k
-
-  outcome-asks : (st : State) (m : ChargeMessage) → asksBy (outcomeOf x st n m) ≤ x .current
-  unfolding asksBy requestIn requestOf outcomeOf inIdle inOffered inUnverified inParameters inReady readyOf crmOf inCharging inStopping inError
-  outcome-asks Idle Cim = omega arith
-  outcome-asks Idle (Cvm v) = omega arith
-  outcome-asks Idle (Cmp o) = omega arith
-  outcome-asks Idle (Crm v) = omega arith
-  outcome-asks Idle (Ccs v) = omega arith
-  outcome-asks Idle (Cst v) = omega arith
-  outcome-asks Idle Cem = omega arith
-  outcome-asks Offered Cim = omega arith
-  outcome-asks Offered (Cvm v) = either (ltb 0 n) _ _ (either v _ _ (omega arith) (omega arith)) (omega arith)
-  outcome-asks Offered (Cmp o) = omega arith
-  outcome-asks Offered (Crm v) = omega arith
-  outcome-asks Offered (Ccs v) = omega arith
-  outcome-asks Offered (Cst v) = omega arith
-  outcome-asks Offered Cem = omega arith
-  outcome-asks Unverified Cim = omega arith
-  outcome-asks Unverified (Cvm v) = either v _ _ (omega arith) (omega arith)
-  outcome-asks Unverified (Cmp o) = omega arith
-  outcome-asks Unverified (Crm v) = omega arith
-  outcome-asks Unverified (Ccs v) = omega arith
-  outcome-asks Unverified (Cst v) = omega arith
-  outcome-asks Unverified Cem = omega arith
-  outcome-asks Parameters Cim = omega arith
-  outcome-asks Parameters (Cvm v) = either v _ _ (omega arith) (omega arith)
-  outcome-asks Parameters (Cmp o) = either (ltb 5 n) _ _ (omega arith) (omega arith)
-  outcome-asks Parameters (Crm v) = omega arith
-  outcome-asks Parameters (Ccs v) = omega arith
-  outcome-asks Parameters (Cst v) = omega arith
-  outcome-asks Parameters Cem = omega arith
-  outcome-asks (Ready y most) Cim = omega arith
-  outcome-asks (Ready y most) (Cvm v) = omega arith
-  outcome-asks (Ready y most) (Cmp o) = omega arith
-  outcome-asks (Ready y most) (Crm v) = either (y && ltb 0 n) _ _ (either v _ _ (start-asks (x .current) most) (omega arith)) (omega arith)
-  outcome-asks (Ready y most) (Ccs v) = omega arith
-  outcome-asks (Ready y most) (Cst v) = omega arith
-  outcome-asks (Ready y most) Cem = omega arith
-  outcome-asks (Charging p) Cim = omega arith
-  outcome-asks (Charging p) (Cvm v) = omega arith
-  outcome-asks (Charging p) (Cmp o) = omega arith
-  outcome-asks (Charging p) (Crm v) = omega arith
-  outcome-asks (Charging p) (Ccs v) = either v _ _ (omega arith) (omega arith)
-  outcome-asks (Charging p) (Cst v) = omega arith
-  outcome-asks (Charging p) Cem = omega arith
-  outcome-asks (Stopping k e) Cim = omega arith
-  outcome-asks (Stopping k e) (Cvm v) = omega arith
-  outcome-asks (Stopping k e) (Cmp o) = omega arith
-  outcome-asks (Stopping k e) (Crm v) = omega arith
-  outcome-asks (Stopping k e) (Ccs v) = omega arith
-  outcome-asks (Stopping k e) (Cst v) = either v _ _ (either (ltb 0 n) _ _ (omega arith) (omega arith)) (omega arith)
-  outcome-asks (Stopping k e) Cem = omega arith
-  outcome-asks Error Cim = omega arith
-  outcome-asks Error (Cvm v) = omega arith
-  outcome-asks Error (Cmp o) = omega arith
-  outcome-asks Error (Crm v) = omega arith
-  outcome-asks Error (Ccs v) = omega arith
-  outcome-asks Error (Cst v) = omega arith
-  outcome-asks Error Cem = omega arith
+  -- only Charging asks for current
+  outcome-asks : (st : State) (o : Outcome) → Leads x n st o → asksBy o ≤ x .current
+  unfolding asksBy requestIn
+  outcome-asks st o NotTaken = omega arith
+  outcome-asks st o NotInStep = omega arith
+  outcome-asks st o DoesNothing = omega arith
+  outcome-asks st o OpensOne = omega arith
+  outcome-asks st o (ToUnverified g) = omega arith
+  outcome-asks st o (ToParameters g) = omega arith
+  outcome-asks st o ToParametersLater = omega arith
+  outcome-asks st o (ToReady g) = omega arith
+  outcome-asks st o ToReadyAgain = omega arith
+  outcome-asks st o (ToCharging {most = most} g) = start-asks (x .current) most
+  outcome-asks st o (ToStopping f) = omega arith
+  outcome-asks st o MarksIt = omega arith
+  outcome-asks st o EndsIt = omega arith
 
   after-asks : (source : ℕ) (s : Session) (o : Outcome) → requestIn (s .state) ≤ x .current → asksBy o ≤ x .current
       → requestIn (sessionAfter source s o .state) ≤ x .current
@@ -164,11 +119,11 @@ lower m false a b h k = k
 
 drive-asks : (m request cycle time : ℕ) (full : Bool) → request ≤ m → turnedAsks (driveRules request cycle time full) ≤ m
 unfolding turnedAsks driveRules requestOf
-drive-asks m request cycle time full h = lower m (leb 18000 time) _ _ (omega arith) (lower m full _ _ h h)
+drive-asks m request cycle time full h = lower m (leb driveLimit time) _ _ (omega arith) (lower m full _ _ h h)
 
 hold-rules-ask : (m time : ℕ) (full : Bool) → turnedAsks (holdRules time full) ≤ m
 unfolding turnedAsks holdRules requestOf
-hold-rules-ask m time full = lower m (leb 18000 time) _ _ (omega arith) (lower m full _ _ (omega arith) (omega arith))
+hold-rules-ask m time full = lower m (leb holdLimit time) _ _ (omega arith) (lower m full _ _ (omega arith) (omega arith))
 
 rest-asks : (request cycle time : ℕ) → turnedAsks (turned.On (Rest request cycle time)) ≤ request
 unfolding turnedAsks requestOf
@@ -178,9 +133,9 @@ turned-asks : (p : Phase) (full : Bool) → turnedAsks (turnedOf p full) ≤ req
 unfolding turnedOf afterRest requestOf
 turned-asks (Drive request cycle time) full = drive-asks request request cycle time full (omega arith)
 turned-asks (Rest request cycle time) full =
-    lower request (leb 6000 time) _ _
-    (lower request (ltb (request / 2) 60) _ _ (hold-rules-ask request 0 full)
-    (lower request (leb 6 cycle) _ _ (hold-rules-ask request 0 full) (drive-asks request (request / 2) _ 0 full (omega arith))))
+    lower request (leb restLimit time) _ _
+    (lower request (ltb (request / 2) leastRequest) _ _ (hold-rules-ask request 0 full)
+    (lower request (leb mostDrives cycle) _ _ (hold-rules-ask request 0 full) (drive-asks request (request / 2) _ 0 full (omega arith))))
     (rest-asks request cycle time)
 turned-asks (Hold time) full = hold-rules-ask 0 time full
 
@@ -203,7 +158,7 @@ module _ (x : Settings) (r : Readings) (c : Cells) where
 
   wait-asks : (m silence : ℕ) (st : State) → requestIn st ≤ m → turnAsks (waitingOf r silence st) ≤ m
   unfolding turnAsks waitingOf requestIn
-  wait-asks m silence st h = fewer m (leb 200 silence) _ _ (omega arith) (fewer m (wantedOf r) _ _ h (omega arith))
+  wait-asks m silence st h = fewer m (leb silenceLimit silence) _ _ (omega arith) (fewer m (wantedOf r) _ _ h (omega arith))
 
   turn-asks : (n silence : ℕ) (st : State) → turnAsks (turnOf x r c st n silence) ≤ requestIn st
   unfolding turnAsks turnOf chargingOf stopsOf phaseTurn stopOf stoppingOf errorOf requestIn
@@ -214,13 +169,13 @@ module _ (x : Settings) (r : Readings) (c : Cells) where
   turn-asks n silence (Ready y most) = wait-asks 0 silence (Ready y most) (omega arith)
   turn-asks n silence (Charging p) =
       let m = requestOf p in
-      fewer m (leb 200 silence) _ _ (omega arith)
+      fewer m (leb silenceLimit silence) _ _ (omega arith)
       (fewer m (wantedOf r) _ _
       (fewer m (aboveOf (r .current) (x .current)) _ _ (omega arith)
       (fewer m (packFull x r) _ _ (omega arith) (phase-asks m (turnedOf p (cellFull x c)) (turned-asks p (cellFull x c)))))
       (omega arith))
-  turn-asks n silence (Stopping k e) = fewer 0 (leb 600 n) _ _ (omega arith) (omega arith)
-  turn-asks n silence Error = fewer 0 (leb 600 n) _ _ (omega arith) (omega arith)
+  turn-asks n silence (Stopping k e) = fewer 0 (leb closingLimit n) _ _ (omega arith) (omega arith)
+  turn-asks n silence Error = fewer 0 (leb closingLimit n) _ _ (omega arith) (omega arith)
 
   turned-is : (s : Session) (t : Turn) → requestIn (turnedBy s t .state) ≡ turnAsks t
   unfolding turnedBy turnAsks requestIn
@@ -258,16 +213,15 @@ module _ (x : Settings) (r : Readings) (c : Cells) where
 abbrev Within : Controller → Type 0
 Within c = requestIn (c .session .state) ≤ c .settings .current
 
-frame-within : (c : Controller) (id : ℕ) (s : List ℕ) (a : Answer) → a .controller .settings ≡ c .settings → Comes c id s a → Within c
-    → Within (a .controller)
-unfolding withSession messageOf appliedOf
-frame-within c id s a k (Unmoved e n) h =
+frame-within : (c : Controller) (id : ℕ) (s : List ℕ) (a : Answer) → Comes c id s a → Within c → Within (a .controller)
+unfolding sessionMoved messageOf appliedOf
+frame-within c id s a (Left k e n) h =
     subst (λ (z : Settings). requestIn (a .controller .session .state) ≤ z .current) (sym k)
     (subst (λ (z : Session). requestIn (z .state) ≤ c .settings .current) (sym e) h)
-frame-within c id s a k (Took m says may e) h =
+frame-within c id s a (Took m says may e) h =
     subst (λ (z : Answer). Within (z .controller)) (sym e)
     (after-asks (c .settings) (c .session .count) (partsOf id .source) (c .session) (outcomeOf (c .settings) (c .session .state) (c .session .count) m) h
-    (outcome-asks (c .settings) (c .session .count) (c .session .state) m))
+    (outcome-asks (c .settings) (c .session .count) (c .session .state) _ (outcome-leads (c .settings) (c .session .count) (c .session .state) m)))
 
 read-within : (a : SettingsRead) (c : Controller) → Within c → Within (readInto a c)
 unfolding readInto freshOf requestIn
@@ -281,10 +235,10 @@ tick-within c r v t false h = h
 
 event-within : (c : Controller) (e : Event) → Within c → Within (after c e)
 unfolding after
-event-within c (Came id s) h = frame-within c id s (frameTo c id s) (kept-settings c id s) (came c id s) h
-event-within c (Beaten r v t old) h = tick-within c r v t (accepts r v t old) h
-event-within c (Wrote old) h = h
-event-within c (Reread s) h = read-within (readOf s) c h
+event-within c (FrameReceived id s) h = frame-within c id s (frameTo c id s) (came c id s) h
+event-within c (TickMade r v t old) h = tick-within c r v t (accepts r v t old) h
+event-within c (RecordWritten old) h = h
+event-within c (RecordRead s) h = read-within (readOf s) c h
 
 run-within : (c : Controller) (es : List Event) → Within c → Within (afterAll c es)
 unfolding afterAll
