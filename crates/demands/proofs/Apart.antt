@@ -16,19 +16,19 @@ use Rattle.settings.specs.Read.{readOf}
 use Rattle.readings.specs.declared.Readings.{Readings}
 use Rattle.cells.specs.declared.Cells.{Cells}
 use Rattle.charge_messages.specs.declared.ChargeMessage.{ChargeMessage}
-use Rattle.states.specs.declared.State.{State}
-use Rattle.states.specs.declared.State.the-variants.{Idle, Offered, Unverified, Parameters, Ready, Charging, Stopping, Error}
-use Rattle.outcomes.specs.declared.Outcome.{Outcome}
-use Rattle.outcomes.specs.declared.Outcome.the-variants as outcome
-use Rattle.turns.specs.declared.Turn.{Turn}
-use Rattle.turns.specs.declared.Turn.the-variants as turn
+use Rattle.session_states.specs.declared.states.State.{State}
+use Rattle.session_states.specs.declared.states.State.the-variants.{Idle, Offered, Unverified, Parameters, Ready, Charging, Stopping, Error}
+use Rattle.session_by_message.specs.declared.Outcome.{Outcome}
+use Rattle.session_by_message.specs.declared.Outcome.the-variants as outcome
+use Rattle.session_by_tick.specs.declared.Turn.{Turn}
+use Rattle.session_by_tick.specs.declared.Turn.the-variants as turn
 use Rattle.session.specs.declared.Session.{Session}
 use Rattle.session.specs.Message.{sessionAfter, appliedOf, messageOf}
 use Rattle.session.specs.Tick.{turnedBy, turnIn}
-use Rattle.literal.specs.Literal.{grown, counted, literalIn, literalAdvance, literalTick}
+use Rattle.session_paper_counts.specs.Literal.{grown, counted, literalIn, literalAdvance, literalTick}
 use Rattle.controller.specs.declared.Controller.{Controller}
 use Rattle.controller.specs.declared.Answer.{Answer}
-use Rattle.refusals.specs.Frame.{isIdle}
+use Rattle.session_states.specs.States.{isIdle}
 use Rattle.controller.specs.Frame.{frameTo}
 use Rattle.controller.specs.Tick.{accepted, chargeFrames}
 use Rattle.controller.specs.Start.{freshOf, startWith, startOf}
@@ -36,7 +36,7 @@ use Rattle.demands.specs.Says.{chargeOf, Says}
 use Rattle.demands.specs.Machine.{started, Using, paperNext, boxAfter}
 use Rattle.demands.specs.Events.{Event, FrameReceived, TickMade, RecordWritten, RecordRead, callOf, accepts, readInto, isRead, after, noSession, queryIn, isQuery}
 use Rattle.demands.specs.Apart.{fromStation, reaches, reaching, Moment, AfterFrame, sentAt, moments, life, Alike}
-use Rattle.demands.proofs.FrameTo.{sessionMoved, queriesMoved}
+use Rattle.controller.specs.Frame.{sessionMoved, queriesMoved}
 use Rattle.demands.proofs.View.{pf-is, View, Refused, Asks, Charges, view}
 use Rattle.demands.proofs.Comes.{Comes, Left, Took, came, kept-settings, station-is}
 

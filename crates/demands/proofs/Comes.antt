@@ -23,13 +23,14 @@ use Rattle.charge_messages.specs.Content.{contentOf}
 use Rattle.session.specs.Message.{messageOf}
 use Rattle.controller.specs.declared.Controller.{Controller}
 use Rattle.controller.specs.declared.Answer.{Answer}
-use Rattle.refusals.specs.Frame.{isIdle, listed}
+use Rattle.session_states.specs.States.{isIdle}
+use Rattle.refusals.specs.Frame.{listed}
 use Rattle.controller.specs.Frame.{refused, mayCharge, frameTo}
 use Rattle.demands.specs.Events.{chargeIn, queryIn, isCharge, isQuery}
-use Rattle.demands.specs.Checks.{messageIn}
+use Rattle.refusals.specs.Frame.{messageIn}
 use Rattle.demands.specs.Says.{chargeOf, Says}
 use Rattle.demands.proofs.Tests.{second}
-use Rattle.demands.proofs.FrameTo.{sessionMoved, queriesMoved}
+use Rattle.controller.specs.Frame.{sessionMoved, queriesMoved}
 use Rattle.demands.proofs.View.{contentOn, chargeOn, View, Refused, Asks, Charges, each-charge, view}
 
 -- allowed content is of the message that the PF says, and other content is refused by 10

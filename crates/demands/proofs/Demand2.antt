@@ -19,7 +19,7 @@ use Rattle.settings.specs.declared.SettingsRead.{SettingsRead}
 use Rattle.settings.specs.declared.SettingsRead.the-variants as read
 use Rattle.settings.specs.Read.{readOf, recordNumber}
 use Rattle.settings.specs.Write.{Wrote}
-use Rattle.literal.proofs.InStep.{start-in-step}
+use Rattle.session_paper_counts.proofs.InStep.{start-in-step}
 use Rattle.controller.specs.declared.Controller.{Controller}
 use Rattle.controller.specs.declared.Answer.{Answer}
 use Rattle.controller.specs.declared.Start.{Start}
@@ -46,8 +46,8 @@ pub tick-is-the-machine : (c : Controller) (r : Readings) (v : List ℕ) (t : Li
 unfolding seenOf boxAfter accepted
 tick-is-the-machine c r v t old new k h = (
   rw (h .number, h .bytes, h .later)
-      (gave (eqb (tickNumber r v t (length old)) 0) (tickNumber r v t (length old)) (13 * length (tickFrames c r v t)) (tickFrames c r v t)
-      (recordsOf (tickFrames c r v t) ++ drop (13 * length (tickFrames c r v t)) old) old refl),
+      (gave (eqb (tickNumber r v t (length old)) 0) (tickNumber r v t (length old)) (recordSize * length (tickFrames c r v t)) (tickFrames c r v t)
+      (recordsOf (tickFrames c r v t) ++ drop (recordSize * length (tickFrames c r v t)) old) old refl),
   rw (h .next),
 )
 

@@ -14,24 +14,24 @@ use Rattle.settings.specs.Read.{readOf}
 use Rattle.cells.specs.Summaries.{cellsOf}
 use Rattle.charge_messages.specs.declared.ChargeMessage.{ChargeMessage}
 use Rattle.charge_messages.specs.declared.ChargeMessage.the-variants.{Cim, Cvm, Cmp, Crm, Ccs, Cst, Cem}
-use Rattle.states.specs.declared.State.{State}
-use Rattle.states.specs.declared.State.the-variants.{Idle, Offered, Unverified, Parameters, Ready, Charging, Stopping, Error}
-use Rattle.outcomes.specs.declared.Outcome.the-variants.{Refuse}
-use Rattle.outcomes.specs.Message.{outcomeOf, inStopping}
+use Rattle.session_states.specs.declared.states.State.{State}
+use Rattle.session_states.specs.declared.states.State.the-variants.{Idle, Offered, Unverified, Parameters, Ready, Charging, Stopping, Error}
+use Rattle.session_by_message.specs.declared.Outcome.the-variants.{Refuse}
+use Rattle.session_by_message.specs.Message.{outcomeOf, inStopping}
 use Rattle.session.specs.declared.Session.{Session}
 use Rattle.session.specs.Message.{sessionAfter, appliedOf, messageOf}
 use Rattle.controller.specs.declared.Controller.{Controller}
 use Rattle.controller.specs.declared.Answer.{Answer}
-use Rattle.refusals.specs.Frame.{isIdle}
+use Rattle.session_states.specs.States.{isIdle}
 use Rattle.controller.specs.Frame.{refused, frameTo}
 use Rattle.controller.specs.Start.{freshOf}
 use Rattle.demands.specs.Says.{Says}
 use Rattle.demands.specs.Events.{Event, FrameReceived, TickMade, RecordWritten, RecordRead, accepts, readInto, isRead, after, afterAll, noSession}
 use Rattle.demands.specs.Gone.{estGone}
-use Rattle.demands.specs.Kinds.{isCharging, isStopping}
+use Rattle.session_states.specs.States.{isCharging, isStopping}
 use Rattle.demands.specs.Stops.{whyOf, endsFor, leavesFor}
 use Rattle.demands.specs.Ends.{messageEnds, messageLeaves, EndsSession, ByCem, ByCst, ByTick, ByReading, EndsCharge, AtCcs, AtCst, AtCem, AtTick, AtReading}
-use Rattle.demands.proofs.FrameTo.{sessionMoved}
+use Rattle.controller.specs.Frame.{sessionMoved}
 use Rattle.demands.proofs.Comes.{Comes, Left, Took, came, station-is, taken-in}
 use Rattle.demands.proofs.Messages.{ends-message, leaves-message}
 use Rattle.demands.proofs.Gone.{est-gone}

@@ -19,19 +19,19 @@ use Rattle.settings.specs.Read.{readOf}
 use Rattle.readings.specs.declared.Readings.{Readings}
 use Rattle.cells.specs.declared.Cells.{Cells}
 use Rattle.cells.specs.Summaries.{cellsOf}
-use Rattle.states.specs.declared.Est.{Est}
-use Rattle.states.specs.declared.Est.the-variants.{Awaited, Fixed}
-use Rattle.states.specs.declared.State.{State}
-use Rattle.states.specs.declared.State.the-variants.{Idle, Offered, Unverified, Parameters, Ready, Charging, Stopping, Error}
-use Rattle.turns.specs.declared.Turn.{Turn}
-use Rattle.turns.specs.declared.Turn.the-variants as turn
-use Rattle.layouts.specs.Layouts.{estFrame}
+use Rattle.session_states.specs.declared.states.Est.{Est}
+use Rattle.session_states.specs.declared.states.Est.the-variants.{Awaited, Fixed}
+use Rattle.session_states.specs.declared.states.State.{State}
+use Rattle.session_states.specs.declared.states.State.the-variants.{Idle, Offered, Unverified, Parameters, Ready, Charging, Stopping, Error}
+use Rattle.session_by_tick.specs.declared.Turn.{Turn}
+use Rattle.session_by_tick.specs.declared.Turn.the-variants as turn
+use Rattle.session_frames.specs.Layouts.{estFrame}
 use Rattle.session.specs.declared.Session.{Session}
 use Rattle.session.specs.Message.{sessionAfter, appliedOf, messageOf}
 use Rattle.session.specs.Frames.{estBytes, stoppingFrames, framesIn, framesOf}
 use Rattle.session.specs.Tick.{turnedBy, turnIn, sentOf}
-use Rattle.literal.specs.Literal.{grown, counted, literalIn, literalAdvance, literalTick}
-use Rattle.outcomes.specs.declared.Outcome.{Outcome}
+use Rattle.session_paper_counts.specs.Literal.{grown, counted, literalIn, literalAdvance, literalTick}
+use Rattle.session_by_message.specs.declared.Outcome.{Outcome}
 use Rattle.controller.specs.declared.Controller.{Controller}
 use Rattle.controller.specs.declared.Answer.{Answer}
 use Rattle.controller.specs.Start.{freshOf}
@@ -39,10 +39,10 @@ use Rattle.controller.specs.Frame.{frameTo}
 use Rattle.controller.specs.Tick.{tickFrames, chargeFrames, broadcastFrames, cellFrames, accepted}
 use Rattle.demands.specs.Machine.{Using, paperNext, seenOf, framesSeen}
 use Rattle.demands.specs.Events.{Event, FrameReceived, TickMade, RecordWritten, RecordRead, callOf, accepts, readInto, after, afterAll}
-use Rattle.demands.specs.Kinds.{isStopping}
+use Rattle.session_states.specs.States.{isStopping}
 use Rattle.demands.specs.Gone.{holdsEst, sendsEst, goneAfter, estGone}
 use Rattle.demands.proofs.Tests.{or-left, or-right}
-use Rattle.demands.proofs.FrameTo.{sessionMoved}
+use Rattle.controller.specs.Frame.{sessionMoved}
 use Rattle.demands.proofs.Comes.{Comes, Left, Took, came}
 use Rattle.demands.proofs.Outcomes.{Leads, NotTaken, NotInStep, DoesNothing, OpensOne, ToUnverified, ToParameters, ToParametersLater, ToReady, ToReadyAgain, ToCharging, ToStopping, MarksIt, EndsIt, outcome-leads}
 use Rattle.demands.proofs.Messages.{mk}

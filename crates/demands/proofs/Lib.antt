@@ -3,7 +3,6 @@ pub mod Steps
 pub mod Demand2
 pub mod Calls
 pub mod WorkedRows
-pub mod FrameTo
 pub mod View
 pub mod Comes
 pub mod Outcomes

@@ -7,15 +7,15 @@ use lib.Dec.{ltb}
 use Rattle.settings.specs.declared.Settings.{Settings}
 use Rattle.charge_messages.specs.declared.ChargeMessage.{ChargeMessage}
 use Rattle.charge_messages.specs.declared.ChargeMessage.the-variants.{Cim, Cvm, Cmp, Crm, Ccs, Cst, Cem}
-use Rattle.states.specs.declared.State.{State}
-use Rattle.states.specs.declared.State.the-variants.{Idle, Offered, Unverified, Parameters, Ready, Charging, Stopping, Error}
-use Rattle.outcomes.specs.declared.Outcome.{Outcome}
-use Rattle.outcomes.specs.Message.{outcomeOf, inOffered, inUnverified, inParameters, inReady, readyOf, crmOf, inCharging, inStopping, inError}
+use Rattle.session_states.specs.declared.states.State.{State}
+use Rattle.session_states.specs.declared.states.State.the-variants.{Idle, Offered, Unverified, Parameters, Ready, Charging, Stopping, Error}
+use Rattle.session_by_message.specs.declared.Outcome.{Outcome}
+use Rattle.session_by_message.specs.Message.{outcomeOf, inOffered, inUnverified, inParameters, inReady, readyOf, crmInReady, inCharging, inStopping, inError}
 use Rattle.session.specs.declared.Session.{Session}
 use Rattle.session.specs.Message.{sessionAfter}
-use Rattle.refusals.specs.Frame.{isIdle}
-use Rattle.demands.specs.Limits.{firstEcp}
-use Rattle.demands.specs.Kinds.{isCharging, isStopping}
+use Rattle.session_states.specs.States.{isIdle}
+use Rattle.session_states.specs.Limits.{firstEcp}
+use Rattle.session_states.specs.States.{isCharging, isStopping}
 use Rattle.demands.specs.Ends.{messageEnds, messageLeaves}
 use Rattle.demands.proofs.Tests.{same}
 
@@ -38,7 +38,7 @@ module _ (x : Settings) (source a b n : ℕ) where
   and-false false = refl
 
   pub ends-message : (st : State) (m : ChargeMessage) → isIdle st ≡ false → idleAfter st (outcomeOf x st n m) ≡ messageEnds st n m
-  unfolding isIdle isStopping messageEnds sessionAfter outcomeOf inOffered inUnverified inParameters inReady readyOf crmOf inCharging inStopping inError
+  unfolding isIdle isStopping messageEnds sessionAfter outcomeOf inOffered inUnverified inParameters inReady readyOf crmInReady inCharging inStopping inError
   ends-message Idle m h = absurd (false≢true (sym h))
   ends-message Offered Cim h = refl
   ends-message Offered (Cvm v) h = same (idleAfter Offered) (ltb 0 n) (same (idleAfter Offered) v refl refl) refl

@@ -8,16 +8,16 @@ use Rattle.buffers.proofs.Tests.{and-right}
 use Rattle.settings.specs.declared.Settings.{Settings}
 use Rattle.charge_messages.specs.declared.ChargeMessage.{ChargeMessage}
 use Rattle.charge_messages.specs.declared.ChargeMessage.the-variants.{Cim, Cvm, Cmp, Crm, Ccs, Cst, Cem}
-use Rattle.phases.specs.Phases.{startPhase}
-use Rattle.states.specs.declared.Est.{Est}
-use Rattle.states.specs.declared.Est.the-variants.{Awaited}
-use Rattle.states.specs.declared.State.{State}
-use Rattle.states.specs.declared.State.the-variants.{Idle, Offered, Unverified, Parameters, Ready, Charging, Stopping, Error}
-use Rattle.outcomes.specs.declared.Outcome.{Outcome}
-use Rattle.outcomes.specs.declared.Outcome.the-variants.{Refuse, OutOfStep, Open, Heard, Enter, Keep, End}
-use Rattle.outcomes.specs.Message.{outcomeOf, inIdle, inOffered, inUnverified, inParameters, inReady, readyOf, crmOf, inCharging, inStopping, inError}
-use Rattle.demands.specs.Limits.{firstEcp}
-use Rattle.demands.specs.Kinds.{isStopping}
+use Rattle.session_states.specs.Phases.{startPhase}
+use Rattle.session_states.specs.declared.states.Est.{Est}
+use Rattle.session_states.specs.declared.states.Est.the-variants.{Awaited}
+use Rattle.session_states.specs.declared.states.State.{State}
+use Rattle.session_states.specs.declared.states.State.the-variants.{Idle, Offered, Unverified, Parameters, Ready, Charging, Stopping, Error}
+use Rattle.session_by_message.specs.declared.Outcome.{Outcome}
+use Rattle.session_by_message.specs.declared.Outcome.the-variants.{Refuse, OutOfStep, Open, Heard, Enter, Keep, End}
+use Rattle.session_by_message.specs.Message.{outcomeOf, inIdle, inOffered, inUnverified, inParameters, inReady, readyOf, crmInReady, inCharging, inStopping, inError}
+use Rattle.session_states.specs.Limits.{firstEcp}
+use Rattle.session_states.specs.States.{isStopping}
 
 module _ (x : Settings) (n : ℕ) where
   -- from a state with the count `n`
@@ -31,7 +31,7 @@ module _ (x : Settings) (n : ℕ) where
     ToParametersLater : Leads Unverified (Enter Parameters)
     ToReady : {y : Bool} {most : ℕ} → ltb firstEcp n ≡ true → Leads Parameters (Enter (Ready y most))
     ToReadyAgain : {y z : Bool} {most k : ℕ} → Leads (Ready y most) (Enter (Ready z k))
-    ToCharging : {y : Bool} {most : ℕ} → ltb 0 n ≡ true → Leads (Ready y most) (Enter (Charging (startPhase (x .current) most)))
+    ToCharging : {y : Bool} {most : ℕ} → ltb 0 n ≡ true → Leads (Ready y most) (Enter (Charging (startPhase (x .limits .current) most)))
     ToStopping : {st : State} {k : Bool} → isStopping st ≡ false → Leads st (Enter (Stopping k Awaited))
     MarksIt : {k : Bool} {e : Est} → Leads (Stopping k e) (Keep (Stopping true e))
     EndsIt : {st : State} → Leads st End
@@ -42,7 +42,7 @@ module _ (x : Settings) (n : ℕ) where
 
   -- the one walk of the table
   pub outcome-leads : (st : State) (m : ChargeMessage) → Leads st (outcomeOf x st n m)
-  unfolding outcomeOf inIdle inOffered inUnverified inParameters inReady readyOf crmOf inCharging inStopping inError isStopping
+  unfolding outcomeOf inIdle inOffered inUnverified inParameters inReady readyOf crmInReady inCharging inStopping inError isStopping
   outcome-leads Idle Cim = OpensOne
   outcome-leads Idle (Cvm v) = NotTaken
   outcome-leads Idle (Cmp o) = NotTaken

@@ -11,18 +11,19 @@ use lib.Dec.{eqb}
 use Rattle.messages.specs.Identifier.{partsOf}
 use Rattle.charge_messages.specs.declared.ChargeMessage.{ChargeMessage}
 use Rattle.charge_messages.specs.declared.ChargeMessage.the-variants.{Cim, Cvm, Cmp, Crm, Ccs, Cst, Cem}
-use Rattle.states.specs.declared.State.the-variants.{Idle}
-use Rattle.outcomes.specs.declared.Outcome.the-variants.{Refuse}
-use Rattle.outcomes.specs.Message.{outcomeOf, inIdle}
+use Rattle.session_states.specs.declared.states.State.the-variants.{Idle}
+use Rattle.session_by_message.specs.declared.Outcome.the-variants.{Refuse}
+use Rattle.session_by_message.specs.Message.{outcomeOf, inIdle}
 use Rattle.session.specs.Message.{sessionAfter, appliedOf, messageOf}
 use Rattle.controller.specs.declared.Controller.{Controller}
 use Rattle.controller.specs.declared.Answer.{Answer}
-use Rattle.refusals.specs.Frame.{isIdle, listed}
+use Rattle.session_states.specs.States.{isIdle}
+use Rattle.refusals.specs.Frame.{listed}
 use Rattle.controller.specs.Frame.{refused, mayCharge, frameTo}
 use Rattle.demands.specs.Says.{Says}
 use Rattle.demands.specs.Over.{openedWith, Opens, Ignored}
 use Rattle.demands.proofs.Tests.{first}
-use Rattle.demands.proofs.FrameTo.{sessionMoved}
+use Rattle.controller.specs.Frame.{sessionMoved}
 use Rattle.demands.proofs.Comes.{Comes, Left, Took, came, says-taken, says-refused}
 
 -- in Idle the list decides

@@ -20,17 +20,18 @@ use Rattle.cells.specs.Summaries.{cellsOf}
 use Rattle.charge_messages.specs.declared.Offer.{Offer}
 use Rattle.charge_messages.specs.declared.ChargeMessage.{ChargeMessage}
 use Rattle.charge_messages.specs.declared.ChargeMessage.the-variants.{Cim, Cvm, Cmp, Crm}
-use Rattle.states.specs.declared.State.{State}
-use Rattle.states.specs.declared.State.the-variants.{Idle, Offered, Unverified, Parameters, Ready}
-use Rattle.outcomes.specs.Offer.{stationMost}
-use Rattle.outcomes.specs.Message.{outcomeOf}
+use Rattle.session_states.specs.declared.states.State.{State}
+use Rattle.session_states.specs.declared.states.State.the-variants.{Idle, Offered, Unverified, Parameters, Ready}
+use Rattle.session_by_message.specs.Offer.{stationMaximum}
+use Rattle.session_by_message.specs.Message.{outcomeOf}
 use Rattle.session.specs.declared.Session.{Session}
 use Rattle.session.specs.Message.{sessionAfter, appliedOf, messageOf}
-use Rattle.literal.specs.Literal.{literalTick}
+use Rattle.session_paper_counts.specs.Literal.{literalTick}
 use Rattle.controller.specs.declared.Controller.{Controller}
-use Rattle.refusals.specs.Frame.{isIdle, listed}
+use Rattle.session_states.specs.States.{isIdle}
+use Rattle.refusals.specs.Frame.{listed}
 use Rattle.controller.specs.Frame.{frameTo}
-use Rattle.demands.specs.Limits.{silenceLimit}
+use Rattle.session_states.specs.Limits.{silenceLimit}
 use Rattle.demands.specs.Machine.{paperNext}
 use Rattle.demands.specs.Events.{Event, FrameReceived, TickMade, RecordWritten, RecordRead, accepts, readInto, isRead, after, afterAll, noSession, endsWithin}
 use Rattle.demands.specs.Apart.{reaching}
@@ -219,7 +220,7 @@ module _ (x : Settings) (a : ℕ) (o : Offer) where
   follow k n b es (Offers {id = id} {s = s} {es = fs} h y l f) c w =
       good-step _ c (FrameReceived id s) fs (now-open k n b c w)
       (follow UntilCrm 0 0 fs f (after c (FrameReceived id s))
-      (begins UntilCrm c id s (Ready true (stationMost o)) (w .settings)
+      (begins UntilCrm c id s (Ready true (stationMaximum o)) (w .settings)
       (now-says k n b c w (Cmp o) id s h ∙ cmp-offers x a o n (w .silence) (w .count) (w .state) (w .place) y (omega (arith, l))) AtLast))
   follow k n b es (Starts {id = id} {s = s} h l) c w =
       good-step _ c (FrameReceived id s) [] (now-open k n b c w)

@@ -22,7 +22,7 @@ use Rattle.controller.specs.declared.Answer.{Answer}
 use Rattle.controller.specs.Frame.{frameTo}
 use Rattle.demands.specs.Events.{noSession}
 use Rattle.demands.specs.Says.{Says, chargeOf}
-use Rattle.demands.proofs.FrameTo.{sessionMoved}
+use Rattle.controller.specs.Frame.{sessionMoved}
 use Rattle.demands.proofs.Comes.{Comes, Left, Took, came, station-is, taken-in}
 
 -- the session takes what its station says

@@ -18,36 +18,36 @@ use Rattle.settings.specs.declared.SettingsRead.the-variants as read
 use Rattle.settings.specs.Read.{readOf}
 use Rattle.controller.specs.Start.{freshOf}
 use Rattle.readings.specs.declared.Readings.{Readings}
-use Rattle.readings.specs.Readings.{wantedOf, aboveOf}
+use Rattle.readings.specs.Readings.{wantedOf}
 use Rattle.cells.specs.declared.Cells.{Cells}
 use Rattle.cells.specs.Summaries.{cellsOf}
 use Rattle.charge_messages.specs.declared.ChargeMessage.{ChargeMessage}
-use Rattle.phases.specs.declared.Cause.{Cause}
-use Rattle.phases.specs.declared.Cause.the-variants.{PackVoltage, Other}
-use Rattle.phases.specs.declared.Turned.{Turned}
-use Rattle.phases.specs.declared.Turned.the-variants as turned
-use Rattle.phases.specs.Phases.{turnedOf}
-use Rattle.states.specs.declared.State.{State}
-use Rattle.states.specs.declared.State.the-variants.{Idle, Offered, Unverified, Parameters, Ready, Charging, Stopping, Error}
-use Rattle.outcomes.specs.declared.Outcome.{Outcome}
-use Rattle.outcomes.specs.declared.Outcome.the-variants.{Enter, End}
-use Rattle.outcomes.specs.Message.{outcomeOf}
-use Rattle.turns.specs.declared.Turn.{Turn}
-use Rattle.turns.specs.declared.Turn.the-variants as turn
-use Rattle.turns.specs.Turns.{stopOf, estThen, waitingOf, phaseOn, phaseTurn, stopsOf, chargingOf, stoppingOf, errorOf, turnOf, cellFull, packFull}
+use Rattle.session_states.specs.declared.phases.Cause.{Cause}
+use Rattle.session_states.specs.declared.phases.Cause.the-variants.{PackVoltage, Other}
+use Rattle.session_states.specs.declared.phases.PhaseAfter.{PhaseAfter}
+use Rattle.session_states.specs.declared.phases.PhaseAfter.the-variants as phase
+use Rattle.session_states.specs.Phases.{phaseAfter}
+use Rattle.session_states.specs.declared.states.State.{State}
+use Rattle.session_states.specs.declared.states.State.the-variants.{Idle, Offered, Unverified, Parameters, Ready, Charging, Stopping, Error}
+use Rattle.session_by_message.specs.declared.Outcome.{Outcome}
+use Rattle.session_by_message.specs.declared.Outcome.the-variants.{Enter, End}
+use Rattle.session_by_message.specs.Message.{outcomeOf}
+use Rattle.session_by_tick.specs.declared.Turn.{Turn}
+use Rattle.session_by_tick.specs.declared.Turn.the-variants as turn
+use Rattle.session_by_tick.specs.Turns.{stopOf, estThen, waitingOf, phaseOn, phaseTurn, stopsOf, chargingOf, stoppingOf, errorOf, turnOf, cellFull, packFull}
 use Rattle.session.specs.declared.Session.{Session}
 use Rattle.session.specs.Message.{sessionAfter, appliedOf, messageOf}
 use Rattle.session.specs.Tick.{turnedBy, turnIn}
-use Rattle.literal.specs.Literal.{grown, counted, literalIn, literalAdvance, literalTick}
+use Rattle.session_paper_counts.specs.Literal.{grown, counted, literalIn, literalAdvance, literalTick}
 use Rattle.controller.specs.declared.Controller.{Controller}
 use Rattle.controller.specs.declared.Answer.{Answer}
 use Rattle.controller.specs.Frame.{frameTo}
-use Rattle.demands.specs.Limits.{silenceLimit, closingLimit, firstEcp}
+use Rattle.session_states.specs.Limits.{silenceLimit, closingLimit, firstEcp}
 use Rattle.demands.specs.Machine.{paperNext}
 use Rattle.demands.specs.Events.{Event, FrameReceived, TickMade, RecordWritten, RecordRead, accepts, readInto, after, afterAll}
-use Rattle.demands.specs.Kinds.{isCharging}
+use Rattle.session_states.specs.States.{isCharging}
 use Rattle.demands.specs.Silent.{isAcceptedTick, ticksIn}
-use Rattle.demands.proofs.FrameTo.{sessionMoved}
+use Rattle.controller.specs.Frame.{sessionMoved}
 use Rattle.demands.proofs.Comes.{Comes, Left, Took, came}
 use Rattle.demands.proofs.Outcomes.{Leads, NotTaken, NotInStep, DoesNothing, OpensOne, ToUnverified, ToParameters, ToParametersLater, ToReady, ToReadyAgain, ToCharging, ToStopping, MarksIt, EndsIt, outcome-leads}
 use Rattle.demands.proofs.Messages.{mk}
@@ -153,12 +153,12 @@ closing-needs s st false = next-on s st
 
 module _ (x : Settings) (r : Readings) (c : Cells) (s : Session) where
   -- Charging goes on or stops
-  phase-needs : (q : Turned) → next s (phaseOn x r c q) ≤ 8 + 1
+  phase-needs : (q : PhaseAfter) → next s (phaseOn x r c q) ≤ 8 + 1
   unfolding phaseOn needs
-  phase-needs (turned.On p) = next-on s (Charging p)
-  phase-needs (turned.Stop k) = omega (arith, next-stop x r c s k)
+  phase-needs (phase.On p) = next-on s (Charging p)
+  phase-needs (phase.Stop k) = omega (arith, next-stop x r c s k)
 
-  charging-turn : (q : Turned) (silent wanted above full : Bool)
+  charging-turn : (q : PhaseAfter) (silent wanted above full : Bool)
       → next s (cond silent (turn.Enter Error)
       (cond wanted (cond above (stopOf x r c Other) (cond full (stopOf x r c PackVoltage) (phaseOn x r c q))) (stopOf x r c Other)))
       ≤ 8 + 1
@@ -176,7 +176,7 @@ module _ (x : Settings) (r : Readings) (c : Cells) (s : Session) where
   turn-needs Parameters = waiting-needs s Parameters (leb silenceLimit (s .silence)) (wantedOf r)
   turn-needs (Ready y most) = waiting-needs s (Ready y most) (leb silenceLimit (s .silence)) (wantedOf r)
   turn-needs (Charging p) =
-      charging-turn (turnedOf p (cellFull x c)) (leb silenceLimit (s .silence)) (wantedOf r) (aboveOf (r .current) (x .current)) (packFull x r)
+      charging-turn (phaseAfter p (cellFull x c)) (leb silenceLimit (s .silence)) (wantedOf r) (currentAbove x r) (packFull x r)
   turn-needs (Stopping k e) = closing-needs s (Stopping k (estThen x r c e)) (leb closingLimit (s .count))
   turn-needs Error = closing-needs s Error (leb closingLimit (s .count))
 

@@ -13,14 +13,14 @@ use Rattle.settings.specs.Range.{within, goodStations, inRange}
 use Rattle.charge_messages.specs.declared.Offer.{Offer}
 use Rattle.charge_messages.specs.declared.ChargeMessage.the-variants.{Cim, Cvm, Cmp, Crm}
 use Rattle.charge_messages.specs.Content.{contentOf}
-use Rattle.outcomes.specs.Offer.{acceptedOf}
+use Rattle.session_by_message.specs.Offer.{acceptedOf}
 use Rattle.controller.specs.Start.{freshOf}
 use Rattle.refusals.specs.Frame.{notCan, flagsSet, notForUs, badSource, listed}
-use Rattle.demands.specs.Limits.{silenceLimit}
+use Rattle.session_states.specs.Limits.{silenceLimit}
 use Rattle.demands.specs.Events.{chargeIn, Event, FrameReceived, TickMade, afterAll, isQuery, queryIn}
 use Rattle.demands.specs.Apart.{fromStation, reaches, reaching}
 use Rattle.demands.specs.Silent.{isAcceptedTick, ticksIn}
-use Rattle.demands.specs.Checks.{longEnough, messageIn}
+use Rattle.refusals.specs.Frame.{longEnough, messageIn}
 use Rattle.demands.specs.Says.{Says}
 use Rattle.demands.specs.Reach.{chargingWith, Stretch, UntilCvm, UntilVerified, UntilCmp, UntilCrm, besides}
 use Rattle.demands.specs.Reach.{Passing, Follows, Passes, Ticks, Speaks, Delays, VerifiesLater, Verifies, Offers, Starts}

@@ -13,20 +13,20 @@ use Rattle.cells.specs.declared.Cells.{Cells}
 use Rattle.charge_messages.specs.declared.Offer.{Offer}
 use Rattle.charge_messages.specs.declared.ChargeMessage.{ChargeMessage}
 use Rattle.charge_messages.specs.declared.ChargeMessage.the-variants.{Cim, Cvm, Cmp, Crm, Ccs, Cst, Cem}
-use Rattle.phases.specs.Phases.{startPhase}
-use Rattle.states.specs.declared.State.{State}
-use Rattle.states.specs.declared.State.the-variants.{Offered, Unverified, Parameters, Ready, Charging}
-use Rattle.outcomes.specs.declared.Outcome.{Outcome}
-use Rattle.outcomes.specs.declared.Outcome.the-variants.{OutOfStep, Heard, Enter}
-use Rattle.outcomes.specs.Offer.{acceptedOf, stationMost}
-use Rattle.outcomes.specs.Message.{outcomeOf, inOffered, inUnverified, inParameters, inReady, readyOf, crmOf}
-use Rattle.turns.specs.Turns.{waitingOf, turnOf}
+use Rattle.session_states.specs.Phases.{startPhase}
+use Rattle.session_states.specs.declared.states.State.{State}
+use Rattle.session_states.specs.declared.states.State.the-variants.{Offered, Unverified, Parameters, Ready, Charging}
+use Rattle.session_by_message.specs.declared.Outcome.{Outcome}
+use Rattle.session_by_message.specs.declared.Outcome.the-variants.{OutOfStep, Heard, Enter}
+use Rattle.session_by_message.specs.Offer.{acceptedOf, stationMaximum}
+use Rattle.session_by_message.specs.Message.{outcomeOf, inOffered, inUnverified, inParameters, inReady, readyOf, crmInReady}
+use Rattle.session_by_tick.specs.Turns.{waitingOf, turnOf}
 use Rattle.session.specs.declared.Session.{Session}
 use Rattle.session.specs.Message.{sessionAfter}
 use Rattle.session.specs.Tick.{turnedBy, turnIn}
-use Rattle.literal.specs.Literal.{grown, literalIn, literalAdvance, literalTick}
-use Rattle.refusals.specs.Frame.{isIdle}
-use Rattle.demands.specs.Limits.{silenceLimit, firstEcp}
+use Rattle.session_paper_counts.specs.Literal.{grown, literalIn, literalAdvance, literalTick}
+use Rattle.session_states.specs.States.{isIdle}
+use Rattle.session_states.specs.Limits.{silenceLimit, firstEcp}
 use Rattle.demands.specs.Reach.{chargingWith, Stretch, UntilCvm, UntilVerified, UntilCmp, UntilCrm, besides}
 use Rattle.demands.proofs.Messages.{mk}
 
@@ -37,8 +37,8 @@ pub data At (o : Offer) : Stretch → ℕ → State → ℕ → Type 0 where
   AtOffered : {n : ℕ} → At o UntilCvm n Offered n
   AtUnverified : {n : ℕ} → At o UntilVerified n Unverified n
   AtParameters : {n : ℕ} → At o UntilCmp n Parameters n
-  AtReady : {n m most : ℕ} {accepted : Bool} → firstEcp + 1 ≤ n → At o UntilCmp n (Ready accepted most) m
-  AtLast : {n : ℕ} → At o UntilCrm n (Ready true (stationMost o)) n
+  AtReady : {n m most : ℕ} {accepted : Bool} → firstEcp + 1 ≤ n → At o UntilCmp n (Ready accepted maximum) m
+  AtLast : {n : ℕ} → At o UntilCrm n (Ready true (stationMaximum o)) n
 
 pub at-next : (o : Offer) (k : Stretch) (n m : ℕ) (st : State) → At o k n st m → At o k (n + 1) st (m + 1)
 at-next o k n m st AtOffered = AtOffered
@@ -126,7 +126,7 @@ module _ (x : Settings) (a : ℕ) (o : Offer) where
 
     cmp-parameters : (n : ℕ) (p : Offer) (g : Bool) → ltb firstEcp n ≡ g → Word UntilCmp n (comes n Parameters (cond g (readyOf x p) OutOfStep))
     unfolding readyOf
-    cmp-parameters n p true e = enters UntilCmp n n Parameters (Ready (acceptedOf x p) (stationMost p)) (AtReady (ltb-true firstEcp n e))
+    cmp-parameters n p true e = enters UntilCmp n n Parameters (Ready (acceptedOf x p) (stationMaximum p)) (AtReady (ltb-true firstEcp n e))
     cmp-parameters n p false e = stays-out UntilCmp n n Parameters AtParameters
 
     in-parameters : (n : ℕ) (w : ChargeMessage) → besides UntilCmp n w ≡ true → Word UntilCmp n (comes n Parameters (inParameters x n w))
@@ -140,35 +140,35 @@ module _ (x : Settings) (a : ℕ) (o : Offer) where
     in-parameters n Cem h = absurd (false≢true h)
 
     -- CRM 00 and FF stay in Ready, taken or not
-    crm-stays : (k : Stretch) (n m most : ℕ) (accepted g : Bool) → At o k n (Ready accepted most) m
-        → Word k n (comes m (Ready accepted most) (cond g (cond false (Enter (Charging (startPhase (x .current) most))) Heard) OutOfStep))
-    crm-stays k n m most accepted true p = stays-heard k n m (Ready accepted most) p
-    crm-stays k n m most accepted false p = stays-out k n m (Ready accepted most) p
+    crm-stays : (k : Stretch) (n m most : ℕ) (accepted g : Bool) → At o k n (Ready accepted maximum) m
+        → Word k n (comes m (Ready accepted maximum) (cond g (cond false (Enter (Charging (startPhase (x .limits .current) most))) Heard) OutOfStep))
+    crm-stays k n m most accepted true p = stays-heard k n m (Ready accepted maximum) p
+    crm-stays k n m most accepted false p = stays-out k n m (Ready accepted maximum) p
 
     in-ready : (n m most : ℕ) (accepted : Bool) (w : ChargeMessage) → firstEcp + 1 ≤ n → besides UntilCmp n w ≡ true
-        → Word UntilCmp n (comes m (Ready accepted most) (inReady x accepted most m w))
-    unfolding besides inReady readyOf crmOf
+        → Word UntilCmp n (comes m (Ready accepted maximum) (inReady x accepted maximum m w))
+    unfolding besides inReady readyOf crmInReady
     in-ready n m most accepted Cim l h = absurd (false≢true h)
-    in-ready n m most accepted (Cvm v) l h = stays-out UntilCmp n m (Ready accepted most) (AtReady l)
+    in-ready n m most accepted (Cvm v) l h = stays-out UntilCmp n m (Ready accepted maximum) (AtReady l)
     in-ready n m most accepted (Cmp p) l h =
-        enters UntilCmp n m (Ready accepted most) (Ready (acceptedOf x p) (stationMost p)) (AtReady l)
+        enters UntilCmp n m (Ready accepted maximum) (Ready (acceptedOf x p) (stationMaximum p)) (AtReady l)
     in-ready n m most accepted (Crm true) l h = absurd (false≢true (not-both (ltb firstEcp n) (lt-ltb firstEcp n l) h))
     in-ready n m most accepted (Crm false) l h = crm-stays UntilCmp n m most accepted (accepted && ltb 0 m) (AtReady l)
-    in-ready n m most accepted (Ccs v) l h = stays-out UntilCmp n m (Ready accepted most) (AtReady l)
+    in-ready n m most accepted (Ccs v) l h = stays-out UntilCmp n m (Ready accepted maximum) (AtReady l)
     in-ready n m most accepted (Cst v) l h = absurd (false≢true h)
     in-ready n m most accepted Cem l h = absurd (false≢true h)
 
     abbrev lastReady : State
-    lastReady = Ready true (stationMost o)
+    lastReady = Ready true (stationMaximum o)
 
     crm-last : (n : ℕ) (v g : Bool) → not (v && g) ≡ true
-        → Word UntilCrm n (comes n lastReady (cond g (cond v (Enter (Charging (startPhase (x .current) (stationMost o)))) Heard) OutOfStep))
+        → Word UntilCrm n (comes n lastReady (cond g (cond v (Enter (Charging (startPhase (x .limits .current) (stationMaximum o)))) Heard) OutOfStep))
     crm-last n true true h = absurd (false≢true h)
     crm-last n true false h = stays-out UntilCrm n n lastReady AtLast
-    crm-last n false g h = crm-stays UntilCrm n n (stationMost o) true g AtLast
+    crm-last n false g h = crm-stays UntilCrm n n (stationMaximum o) true g AtLast
 
-    in-last : (n : ℕ) (w : ChargeMessage) → besides UntilCrm n w ≡ true → Word UntilCrm n (comes n lastReady (inReady x true (stationMost o) n w))
-    unfolding besides inReady crmOf
+    in-last : (n : ℕ) (w : ChargeMessage) → besides UntilCrm n w ≡ true → Word UntilCrm n (comes n lastReady (inReady x true (stationMaximum o) n w))
+    unfolding besides inReady crmInReady
     in-last n Cim h = absurd (false≢true h)
     in-last n (Cvm v) h = stays-out UntilCrm n n lastReady AtLast
     in-last n (Cmp p) h = absurd (false≢true h)
@@ -217,12 +217,12 @@ module _ (x : Settings) (a : ℕ) (o : Offer) where
   cvm-later n b m st AtUnverified = refl
 
   pub cmp-offers : (n b m : ℕ) (st : State) → At o UntilCmp n st m → acceptedOf x o ≡ true → firstEcp + 1 ≤ n
-      → sessionAfter a (mk a b m st) (outcomeOf x st m (Cmp o)) ≡ mk a 0 0 (Ready true (stationMost o))
+      → sessionAfter a (mk a b m st) (outcomeOf x st m (Cmp o)) ≡ mk a 0 0 (Ready true (stationMaximum o))
   unfolding sessionAfter outcomeOf inParameters inReady readyOf
   cmp-offers n b m st AtParameters y l = rw (lt-ltb firstEcp n l, y)
   cmp-offers n b m st (AtReady h) y l = rw y
 
   pub crm-starts : (n b m : ℕ) (st : State) → At o UntilCrm n st m → 1 ≤ n
       → sessionAfter a (mk a b m st) (outcomeOf x st m (Crm true)) ≡ chargingWith x a o
-  unfolding sessionAfter outcomeOf inReady crmOf
+  unfolding sessionAfter outcomeOf inReady crmInReady
   crm-starts n b m st AtLast l = rw (lt-ltb 0 n l)

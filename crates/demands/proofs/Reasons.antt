@@ -6,52 +6,52 @@ use mathlib.Core.Bool.{Bool, true, false, cond, _&&_, _||_}
 use lib.Dec.{leb, ltb}
 use Rattle.settings.specs.declared.Settings.{Settings}
 use Rattle.readings.specs.declared.Readings.{Readings}
-use Rattle.readings.specs.Readings.{wantedOf, aboveOf}
+use Rattle.readings.specs.Readings.{wantedOf}
 use Rattle.cells.specs.declared.Cells.{Cells}
-use Rattle.phases.specs.declared.Phase.{Phase}
-use Rattle.phases.specs.declared.Phase.the-variants.{Drive, Rest, Hold}
-use Rattle.phases.specs.declared.Cause.the-variants.{PackVoltage, HoldCell, Other}
-use Rattle.phases.specs.declared.Turned.{Turned}
-use Rattle.phases.specs.declared.Turned.the-variants as turned
-use Rattle.phases.specs.Phases.{driveRules, holdRules, afterRest, turnedOf}
-use Rattle.states.specs.declared.State.{State}
-use Rattle.states.specs.declared.State.the-variants.{Idle, Offered, Unverified, Parameters, Ready, Charging, Stopping, Error}
-use Rattle.turns.specs.declared.Turn.{Turn}
-use Rattle.turns.specs.declared.Turn.the-variants.{On, Enter, Farewell, End}
-use Rattle.turns.specs.Turns.{cellFull, packFull, stopOf, waitingOf, phaseOn, phaseTurn, stopsOf, chargingOf, stoppingOf, errorOf, turnOf}
+use Rattle.session_states.specs.declared.phases.Phase.{Phase}
+use Rattle.session_states.specs.declared.phases.Phase.the-variants.{Drive, Rest, Hold}
+use Rattle.session_states.specs.declared.phases.Cause.the-variants.{PackVoltage, HoldCell, Other}
+use Rattle.session_states.specs.declared.phases.PhaseAfter.{PhaseAfter}
+use Rattle.session_states.specs.declared.phases.PhaseAfter.the-variants as phase
+use Rattle.session_states.specs.Phases.{driveRules, holdRules, afterRest, phaseAfter}
+use Rattle.session_states.specs.declared.states.State.{State}
+use Rattle.session_states.specs.declared.states.State.the-variants.{Idle, Offered, Unverified, Parameters, Ready, Charging, Stopping, Error}
+use Rattle.session_by_tick.specs.declared.Turn.{Turn}
+use Rattle.session_by_tick.specs.declared.Turn.the-variants.{On, Enter, Farewell, End}
+use Rattle.session_by_tick.specs.Turns.{cellFull, packFull, stopOf, waitingOf, phaseOn, phaseTurn, stopsOf, chargingOf, stoppingOf, errorOf, turnOf}
 use Rattle.session.specs.declared.Session.{Session}
 use Rattle.session.specs.Tick.{turnedBy, turnIn}
-use Rattle.literal.specs.Literal.{grown, counted, literalIn, literalAdvance, literalTick}
-use Rattle.demands.specs.Limits.{silenceLimit, closingLimit, driveLimit, restLimit, holdLimit, leastRequest, mostDrives}
+use Rattle.session_paper_counts.specs.Literal.{grown, counted, literalIn, literalAdvance, literalTick}
+use Rattle.session_states.specs.Limits.{silenceLimit, closingLimit, driveLimit, restLimit, holdLimit, leastRequest, mostDrives}
 use Rattle.demands.specs.Stops.{Why, GoesOn, AtSilenceLimit, NotWantedBefore, NotWantedCharging, CurrentAbove, PackFull, TimeUp, CellFull, AtClosingLimit}
 use Rattle.demands.specs.Stops.{timeUp, inHold, whyIn, whyOf, ChargesAs, GoesOnAs, LeadsTo}
 
 -- ---- what a phase comes to
-unfoldable turnedWhy : Turned → Why
-turnedWhy (turned.On p) = GoesOn
-turnedWhy (turned.Stop PackVoltage) = PackFull
-turnedWhy (turned.Stop HoldCell) = CellFull
-turnedWhy (turned.Stop Other) = TimeUp
+unfoldable turnedWhy : PhaseAfter → Why
+turnedWhy (phase.On p) = GoesOn
+turnedWhy (phase.Stop PackVoltage) = PackFull
+turnedWhy (phase.Stop HoldCell) = CellFull
+turnedWhy (phase.Stop Other) = TimeUp
 
 abbrev phaseWhy : Bool → Bool → Why
 phaseWhy time cell = cond time TimeUp (cond cell CellFull GoesOn)
 
 drive-why : (up full : Bool) (d e : Phase)
-    → turnedWhy (cond up (turned.Stop Other) (cond full (turned.On d) (turned.On e))) ≡ phaseWhy up (false && full)
+    → turnedWhy (cond up (phase.Stop Other) (cond full (phase.On d) (phase.On e))) ≡ phaseWhy up (false && full)
 unfolding turnedWhy
 drive-why true full d e = refl
 drive-why false true d e = refl
 drive-why false false d e = refl
 
 hold-why : (up full : Bool) (d : Phase)
-    → turnedWhy (cond up (turned.Stop Other) (cond full (turned.Stop HoldCell) (turned.On d))) ≡ phaseWhy up (true && full)
+    → turnedWhy (cond up (phase.Stop Other) (cond full (phase.Stop HoldCell) (phase.On d))) ≡ phaseWhy up (true && full)
 unfolding turnedWhy
 hold-why true full d = refl
 hold-why false true d = refl
 hold-why false false d = refl
 
 rest-why : (over small done full : Bool) (request cycle : ℕ) (d : Phase)
-    → turnedWhy (cond over (cond small (holdRules 0 full) (cond done (holdRules 0 full) (driveRules request cycle 0 full))) (turned.On d))
+    → turnedWhy (cond over (cond small (holdRules 0 full) (cond done (holdRules 0 full) (driveRules request cycle 0 full))) (phase.On d))
     ≡ phaseWhy false ((over && (small || done)) && full)
 unfolding turnedWhy holdRules driveRules
 rest-why false small done full request cycle d = refl
@@ -62,8 +62,8 @@ rest-why true false true false request cycle d = refl
 rest-why true false false true request cycle d = refl
 rest-why true false false false request cycle d = refl
 
-phase-why : (p : Phase) (full : Bool) → turnedWhy (turnedOf p full) ≡ phaseWhy (timeUp p) (inHold p && full)
-unfolding turnedOf driveRules holdRules afterRest timeUp inHold
+phase-why : (p : Phase) (full : Bool) → turnedWhy (phaseAfter p full) ≡ phaseWhy (timeUp p) (inHold p && full)
+unfolding phaseAfter driveRules holdRules afterRest timeUp inHold
 phase-why (Drive request cycle time) full = drive-why (leb driveLimit time) full _ _
 phase-why (Rest request cycle time) full = rest-why (leb restLimit time) (ltb (request / 2) leastRequest) (leb mostDrives cycle) full _ _ _
 phase-why (Hold time) full = hold-why (leb holdLimit time) full _
@@ -81,7 +81,7 @@ module _ (x : Settings) (r : Readings) (c : Cells) (s : Session) where
   wait-why st false true h = h
   wait-why st false false h = refl
 
-  charge-why : (p : Phase) (late wanted above full : Bool) (t : Turned) → turnedOf p (cellFull x c) ≡ t
+  charge-why : (p : Phase) (late wanted above full : Bool) (t : PhaseAfter) → phaseAfter p (cellFull x c) ≡ t
       → LeadsTo x r c (Charging p)
       (cond late AtSilenceLimit (cond wanted (cond above CurrentAbove (cond full PackFull (turnedWhy t))) NotWantedCharging))
       (reached
@@ -92,10 +92,10 @@ module _ (x : Settings) (r : Readings) (c : Cells) (s : Session) where
   charge-why p false false above full t e = refl
   charge-why p false true true full t e = refl
   charge-why p false true false true t e = refl
-  charge-why p false true false false (turned.On q) e = rw e
-  charge-why p false true false false (turned.Stop PackVoltage) e = refl
-  charge-why p false true false false (turned.Stop HoldCell) e = refl
-  charge-why p false true false false (turned.Stop Other) e = refl
+  charge-why p false true false false (phase.On q) e = rw e
+  charge-why p false true false false (phase.Stop PackVoltage) e = refl
+  charge-why p false true false false (phase.Stop HoldCell) e = refl
+  charge-why p false true false false (phase.Stop Other) e = refl
 
   close-why : (st to : State) (over : Bool) → GoesOnAs x r c st (reached (On to))
       → LeadsTo x r c st (cond over AtClosingLimit GoesOn) (reached (cond over End (On to)))
@@ -113,10 +113,10 @@ module _ (x : Settings) (r : Readings) (c : Cells) (s : Session) where
   turn-why n silence (Charging p) =
       subst (λ (w : Why). LeadsTo x r c (Charging p)
       (cond (leb silenceLimit silence) AtSilenceLimit
-      (cond (wantedOf r) (cond (aboveOf (r .current) (x .current)) CurrentAbove (cond (packFull x r) PackFull w)) NotWantedCharging))
+      (cond (wantedOf r) (cond (currentAbove x r) CurrentAbove (cond (packFull x r) PackFull w)) NotWantedCharging))
       (reached (turnOf x r c (Charging p) n silence)))
       (phase-why p (cellFull x c))
-      (charge-why p (leb silenceLimit silence) (wantedOf r) (aboveOf (r .current) (x .current)) (packFull x r) (turnedOf p (cellFull x c)) refl)
+      (charge-why p (leb silenceLimit silence) (wantedOf r) (currentAbove x r) (packFull x r) (phaseAfter p (cellFull x c)) refl)
   turn-why n silence (Stopping k e) = close-why (Stopping k e) _ (leb closingLimit n) refl
   turn-why n silence Error = close-why Error Error (leb closingLimit n) refl
 

@@ -15,35 +15,35 @@ use Rattle.settings.specs.declared.SettingsRead.{SettingsRead}
 use Rattle.settings.specs.declared.SettingsRead.the-variants as read
 use Rattle.settings.specs.Read.{readOf}
 use Rattle.readings.specs.declared.Readings.{Readings}
-use Rattle.readings.specs.Readings.{wantedOf, aboveOf}
+use Rattle.readings.specs.Readings.{wantedOf}
 use Rattle.cells.specs.declared.Cells.{Cells}
 use Rattle.cells.specs.Summaries.{cellsOf}
-use Rattle.phases.specs.declared.Phase.{Phase}
-use Rattle.phases.specs.declared.Phase.the-variants.{Drive, Rest, Hold}
-use Rattle.phases.specs.declared.Turned.{Turned}
-use Rattle.phases.specs.declared.Turned.the-variants as turned
-use Rattle.phases.specs.Phases.{lesserOf, startPhase, driveRules, holdRules, afterRest, turnedOf}
-use Rattle.states.specs.declared.State.{State}
-use Rattle.states.specs.declared.State.the-variants.{Idle, Offered, Unverified, Parameters, Ready, Charging, Stopping, Error}
-use Rattle.outcomes.specs.declared.Outcome.{Outcome}
-use Rattle.outcomes.specs.declared.Outcome.the-variants as outcome
-use Rattle.outcomes.specs.Message.{outcomeOf}
-use Rattle.turns.specs.declared.Turn.{Turn}
-use Rattle.turns.specs.declared.Turn.the-variants as turn
-use Rattle.turns.specs.Turns.{cellFull, packFull, stopOf, waitingOf, phaseOn, phaseTurn, stopsOf, chargingOf, stoppingOf, errorOf, turnOf}
+use Rattle.session_states.specs.declared.phases.Phase.{Phase}
+use Rattle.session_states.specs.declared.phases.Phase.the-variants.{Drive, Rest, Hold}
+use Rattle.session_states.specs.declared.phases.PhaseAfter.{PhaseAfter}
+use Rattle.session_states.specs.declared.phases.PhaseAfter.the-variants as phase
+use Rattle.session_states.specs.Phases.{lesserOf, startPhase, driveRules, holdRules, afterRest, phaseAfter}
+use Rattle.session_states.specs.declared.states.State.{State}
+use Rattle.session_states.specs.declared.states.State.the-variants.{Idle, Offered, Unverified, Parameters, Ready, Charging, Stopping, Error}
+use Rattle.session_by_message.specs.declared.Outcome.{Outcome}
+use Rattle.session_by_message.specs.declared.Outcome.the-variants as outcome
+use Rattle.session_by_message.specs.Message.{outcomeOf}
+use Rattle.session_by_tick.specs.declared.Turn.{Turn}
+use Rattle.session_by_tick.specs.declared.Turn.the-variants as turn
+use Rattle.session_by_tick.specs.Turns.{cellFull, packFull, stopOf, waitingOf, phaseOn, phaseTurn, stopsOf, chargingOf, stoppingOf, errorOf, turnOf}
 use Rattle.session.specs.declared.Session.{Session}
 use Rattle.session.specs.Message.{sessionAfter, appliedOf, messageOf}
 use Rattle.session.specs.Tick.{turnedBy, turnIn}
-use Rattle.literal.specs.Literal.{older, grown, counted, literalIn, literalAdvance, literalTick}
+use Rattle.session_paper_counts.specs.Literal.{older, grown, counted, literalIn, literalAdvance, literalTick}
 use Rattle.controller.specs.declared.Controller.{Controller}
 use Rattle.controller.specs.declared.Answer.{Answer}
 use Rattle.controller.specs.Start.{freshOf}
 use Rattle.controller.specs.Frame.{frameTo}
-use Rattle.demands.specs.Limits.{silenceLimit, closingLimit, driveLimit, restLimit, holdLimit, leastRequest, mostDrives}
+use Rattle.session_states.specs.Limits.{silenceLimit, closingLimit, driveLimit, restLimit, holdLimit, leastRequest, mostDrives}
 use Rattle.demands.specs.Machine.{paperNext}
 use Rattle.demands.specs.Events.{Event, FrameReceived, TickMade, RecordWritten, RecordRead, accepts, readInto, after, afterAll}
 use Rattle.demands.specs.Requests.{requestOf, requestIn}
-use Rattle.demands.proofs.FrameTo.{sessionMoved}
+use Rattle.controller.specs.Frame.{sessionMoved}
 use Rattle.demands.proofs.Outcomes.{Leads, NotTaken, NotInStep, DoesNothing, OpensOne, ToUnverified, ToParameters, ToParametersLater, ToReady, ToReadyAgain, ToCharging, ToStopping, MarksIt, EndsIt, outcome-leads}
 use Rattle.demands.proofs.Comes.{Comes, Left, Took, came}
 
@@ -81,7 +81,7 @@ module _ (x : Settings) (n : ℕ) where
   asksBy outcome.End = 0
 
   -- only Charging asks for current
-  outcome-asks : (st : State) (o : Outcome) → Leads x n st o → asksBy o ≤ x .current
+  outcome-asks : (st : State) (o : Outcome) → Leads x n st o → asksBy o ≤ x .limits .current .0
   unfolding asksBy requestIn
   outcome-asks st o NotTaken = omega arith
   outcome-asks st o NotInStep = omega arith
@@ -92,13 +92,13 @@ module _ (x : Settings) (n : ℕ) where
   outcome-asks st o ToParametersLater = omega arith
   outcome-asks st o (ToReady g) = omega arith
   outcome-asks st o ToReadyAgain = omega arith
-  outcome-asks st o (ToCharging {most = most} g) = start-asks (x .current) most
+  outcome-asks st o (ToCharging {most = most} g) = start-asks (x .limits .current) most
   outcome-asks st o (ToStopping f) = omega arith
   outcome-asks st o MarksIt = omega arith
   outcome-asks st o EndsIt = omega arith
 
-  after-asks : (source : ℕ) (s : Session) (o : Outcome) → requestIn (s .state) ≤ x .current → asksBy o ≤ x .current
-      → requestIn (sessionAfter source s o .state) ≤ x .current
+  after-asks : (source : ℕ) (s : Session) (o : Outcome) → requestIn (s .state) ≤ x .limits .current .0 → asksBy o ≤ x .limits .current .0
+      → requestIn (sessionAfter source s o .state) ≤ x .limits .current .0
   unfolding asksBy sessionAfter requestIn
   after-asks source s outcome.Refuse h k = h
   after-asks source s outcome.OutOfStep h k = h
@@ -109,11 +109,11 @@ module _ (x : Settings) (n : ℕ) where
   after-asks source s outcome.End h k = omega arith
 
 -- ---- a tick
-unfoldable turnedAsks : Turned → ℕ
-turnedAsks (turned.On p) = requestOf p
-turnedAsks (turned.Stop cause) = 0
+unfoldable turnedAsks : PhaseAfter → ℕ
+turnedAsks (phase.On p) = requestOf p
+turnedAsks (phase.Stop cause) = 0
 
-lower : (m : ℕ) (t : Bool) (a b : Turned) → turnedAsks a ≤ m → turnedAsks b ≤ m → turnedAsks (cond t a b) ≤ m
+lower : (m : ℕ) (t : Bool) (a b : PhaseAfter) → turnedAsks a ≤ m → turnedAsks b ≤ m → turnedAsks (cond t a b) ≤ m
 lower m true a b h k = h
 lower m false a b h k = k
 
@@ -125,12 +125,12 @@ hold-rules-ask : (m time : ℕ) (full : Bool) → turnedAsks (holdRules time ful
 unfolding turnedAsks holdRules requestOf
 hold-rules-ask m time full = lower m (leb holdLimit time) _ _ (omega arith) (lower m full _ _ (omega arith) (omega arith))
 
-rest-asks : (request cycle time : ℕ) → turnedAsks (turned.On (Rest request cycle time)) ≤ request
+rest-asks : (request cycle time : ℕ) → turnedAsks (phase.On (Rest request cycle time)) ≤ request
 unfolding turnedAsks requestOf
 rest-asks request cycle time = omega arith
 
-turned-asks : (p : Phase) (full : Bool) → turnedAsks (turnedOf p full) ≤ requestOf p
-unfolding turnedOf afterRest requestOf
+turned-asks : (p : Phase) (full : Bool) → turnedAsks (phaseAfter p full) ≤ requestOf p
+unfolding phaseAfter afterRest requestOf
 turned-asks (Drive request cycle time) full = drive-asks request request cycle time full (omega arith)
 turned-asks (Rest request cycle time) full =
     lower request (leb restLimit time) _ _
@@ -151,10 +151,10 @@ fewer m true a b h k = h
 fewer m false a b h k = k
 
 module _ (x : Settings) (r : Readings) (c : Cells) where
-  phase-asks : (m : ℕ) (t : Turned) → turnedAsks t ≤ m → turnAsks (phaseOn x r c t) ≤ m
+  phase-asks : (m : ℕ) (t : PhaseAfter) → turnedAsks t ≤ m → turnAsks (phaseOn x r c t) ≤ m
   unfolding turnedAsks turnAsks phaseOn stopOf requestIn
-  phase-asks m (turned.On p) h = h
-  phase-asks m (turned.Stop cause) h = omega arith
+  phase-asks m (phase.On p) h = h
+  phase-asks m (phase.Stop cause) h = omega arith
 
   wait-asks : (m silence : ℕ) (st : State) → requestIn st ≤ m → turnAsks (waitingOf r silence st) ≤ m
   unfolding turnAsks waitingOf requestIn
@@ -171,8 +171,8 @@ module _ (x : Settings) (r : Readings) (c : Cells) where
       let m = requestOf p in
       fewer m (leb silenceLimit silence) _ _ (omega arith)
       (fewer m (wantedOf r) _ _
-      (fewer m (aboveOf (r .current) (x .current)) _ _ (omega arith)
-      (fewer m (packFull x r) _ _ (omega arith) (phase-asks m (turnedOf p (cellFull x c)) (turned-asks p (cellFull x c)))))
+      (fewer m (currentAbove x r) _ _ (omega arith)
+      (fewer m (packFull x r) _ _ (omega arith) (phase-asks m (phaseAfter p (cellFull x c)) (turned-asks p (cellFull x c)))))
       (omega arith))
   turn-asks n silence (Stopping k e) = fewer 0 (leb closingLimit n) _ _ (omega arith) (omega arith)
   turn-asks n silence Error = fewer 0 (leb closingLimit n) _ _ (omega arith) (omega arith)

@@ -16,30 +16,30 @@ use Rattle.settings.specs.declared.SettingsRead.the-variants as read
 use Rattle.settings.specs.Read.{readOf}
 use Rattle.controller.specs.Start.{freshOf}
 use Rattle.readings.specs.declared.Readings.{Readings}
-use Rattle.readings.specs.Readings.{wantedOf, aboveOf, inRange, currentOk}
+use Rattle.readings.specs.Readings.{wantedOf, inRange, currentOk}
 use Rattle.cells.specs.declared.Cells.{Cells}
 use Rattle.cells.specs.Summaries.{cellsOf}
 use Rattle.cells.specs.Tables.{every}
-use Rattle.phases.specs.declared.Phase.{Phase}
-use Rattle.phases.specs.declared.Cause.{Cause}
-use Rattle.phases.specs.declared.Cause.the-variants.{PackVoltage, Other}
-use Rattle.phases.specs.declared.Turned.{Turned}
-use Rattle.phases.specs.declared.Turned.the-variants as turned
-use Rattle.phases.specs.Phases.{turnedOf}
-use Rattle.states.specs.declared.Est.{Est}
-use Rattle.states.specs.declared.State.{State}
-use Rattle.states.specs.declared.State.the-variants.{Idle, Offered, Unverified, Parameters, Ready, Charging, Stopping, Error}
-use Rattle.turns.specs.declared.Turn.{Turn}
-use Rattle.turns.specs.declared.Turn.the-variants as turn
-use Rattle.turns.specs.Turns.{stopOf, estThen, waitingOf, phaseOn, phaseTurn, stopsOf, chargingOf, stoppingOf, errorOf, turnOf, cellFull, packFull}
+use Rattle.session_states.specs.declared.phases.Phase.{Phase}
+use Rattle.session_states.specs.declared.phases.Cause.{Cause}
+use Rattle.session_states.specs.declared.phases.Cause.the-variants.{PackVoltage, Other}
+use Rattle.session_states.specs.declared.phases.PhaseAfter.{PhaseAfter}
+use Rattle.session_states.specs.declared.phases.PhaseAfter.the-variants as phase
+use Rattle.session_states.specs.Phases.{phaseAfter}
+use Rattle.session_states.specs.declared.states.Est.{Est}
+use Rattle.session_states.specs.declared.states.State.{State}
+use Rattle.session_states.specs.declared.states.State.the-variants.{Idle, Offered, Unverified, Parameters, Ready, Charging, Stopping, Error}
+use Rattle.session_by_tick.specs.declared.Turn.{Turn}
+use Rattle.session_by_tick.specs.declared.Turn.the-variants as turn
+use Rattle.session_by_tick.specs.Turns.{stopOf, estThen, waitingOf, phaseOn, phaseTurn, stopsOf, chargingOf, stoppingOf, errorOf, turnOf, cellFull, packFull}
 use Rattle.session.specs.declared.Session.{Session}
 use Rattle.session.specs.Tick.{turnedBy, turnIn}
-use Rattle.literal.specs.Literal.{grown, counted, literalIn, literalAdvance, literalTick}
+use Rattle.session_paper_counts.specs.Literal.{grown, counted, literalIn, literalAdvance, literalTick}
 use Rattle.controller.specs.declared.Controller.{Controller}
-use Rattle.refusals.specs.Frame.{isIdle}
+use Rattle.session_states.specs.States.{isIdle}
 use Rattle.controller.specs.Frame.{frameTo}
 use Rattle.refusals.specs.Tick.{tickNumber}
-use Rattle.demands.specs.Limits.{silenceLimit, closingLimit}
+use Rattle.session_states.specs.Limits.{silenceLimit, closingLimit}
 use Rattle.demands.specs.Machine.{paperNext}
 use Rattle.demands.specs.Events.{Event, FrameReceived, TickMade, RecordWritten, RecordRead, accepts, readInto, after, noSession, endsWithin}
 use Rattle.demands.specs.Apart.{fromStation}
@@ -145,22 +145,22 @@ falls-waiting r s st e = go (leb silenceLimit (s .silence)) refl (wantedOf r)
     go false h false = omega (arith, next-farewell s)
 
 module _ (x : Settings) (r : Readings) (c : Cells) (s : Session) where
-  falls-phase : (q : Turned) → leb silenceLimit (s .silence) ≡ false → next s (phaseOn x r c q) < closingLimit + 1 + (silenceLimit - s .silence)
+  falls-phase : (q : PhaseAfter) → leb silenceLimit (s .silence) ≡ false → next s (phaseOn x r c q) < closingLimit + 1 + (silenceLimit - s .silence)
   unfolding phaseOn early
-  falls-phase (turned.On p) h = omega (arith, next-on s (Charging p) refl, leb-false silenceLimit (s .silence) h)
-  falls-phase (turned.Stop k) h = omega (arith, next-stop x r c s k)
+  falls-phase (phase.On p) h = omega (arith, next-on s (Charging p) refl, leb-false silenceLimit (s .silence) h)
+  falls-phase (phase.Stop k) h = omega (arith, next-stop x r c s k)
 
   falls-charging : (p : Phase) → next s (chargingOf x r c (s .silence) p) < closingLimit + 1 + (silenceLimit - s .silence)
   unfolding chargingOf stopsOf phaseTurn
-  falls-charging p = go (leb silenceLimit (s .silence)) refl (wantedOf r) (aboveOf (r .current) (x .current)) (packFull x r)
+  falls-charging p = go (leb silenceLimit (s .silence)) refl (wantedOf r) (currentAbove x r) (packFull x r)
     where
       go : (t : Bool) → leb silenceLimit (s .silence) ≡ t → (w u y : Bool) →
-          next s (cond t (turn.Enter Error) (cond w (cond u (stopOf x r c Other) (cond y (stopOf x r c PackVoltage) (phaseOn x r c (turnedOf p (cellFull x c))))) (stopOf x r c Other))) < closingLimit + 1 + (silenceLimit - s .silence)
+          next s (cond t (turn.Enter Error) (cond w (cond u (stopOf x r c Other) (cond y (stopOf x r c PackVoltage) (phaseOn x r c (phaseAfter p (cellFull x c))))) (stopOf x r c Other))) < closingLimit + 1 + (silenceLimit - s .silence)
       go true h w u y = omega (arith, next-error s)
       go false h false u y = omega (arith, next-stop x r c s Other)
       go false h true true y = omega (arith, next-stop x r c s Other)
       go false h true false true = omega (arith, next-stop x r c s PackVoltage)
-      go false h true false false = falls-phase (turnedOf p (cellFull x c)) h
+      go false h true false false = falls-phase (phaseAfter p (cellFull x c)) h
 
   falls-stopping : (a : Bool) (e : Est) → next s (stoppingOf x r c (s .count) a e) < 1 + (closingLimit - s .count)
   unfolding stoppingOf

@@ -9,23 +9,23 @@ use lib.Dec.{ltb}
 use Rattle.settings.specs.declared.Settings.{Settings}
 use Rattle.charge_messages.specs.declared.ChargeMessage.{ChargeMessage}
 use Rattle.charge_messages.specs.declared.ChargeMessage.the-variants.{Cim, Cvm, Cmp, Crm, Ccs, Cst, Cem}
-use Rattle.phases.specs.declared.Phase.{Phase}
-use Rattle.states.specs.declared.Est.{Est}
-use Rattle.states.specs.declared.State.{State}
-use Rattle.states.specs.declared.State.the-variants.{Idle, Offered, Unverified, Parameters, Ready, Charging, Stopping, Error}
-use Rattle.outcomes.specs.declared.Outcome.{Outcome}
-use Rattle.outcomes.specs.declared.Outcome.the-variants.{Refuse}
-use Rattle.outcomes.specs.Message.{outcomeOf, inOffered, inUnverified, inParameters, inReady, readyOf, crmOf, inCharging, inStopping, inError}
+use Rattle.session_states.specs.declared.phases.Phase.{Phase}
+use Rattle.session_states.specs.declared.states.Est.{Est}
+use Rattle.session_states.specs.declared.states.State.{State}
+use Rattle.session_states.specs.declared.states.State.the-variants.{Idle, Offered, Unverified, Parameters, Ready, Charging, Stopping, Error}
+use Rattle.session_by_message.specs.declared.Outcome.{Outcome}
+use Rattle.session_by_message.specs.declared.Outcome.the-variants.{Refuse}
+use Rattle.session_by_message.specs.Message.{outcomeOf, inOffered, inUnverified, inParameters, inReady, readyOf, crmInReady, inCharging, inStopping, inError}
 use Rattle.session.specs.declared.Session.{Session}
 use Rattle.session.specs.Message.{sessionAfter, appliedOf, messageOf}
 use Rattle.controller.specs.declared.Controller.{Controller}
-use Rattle.refusals.specs.Frame.{isIdle}
+use Rattle.session_states.specs.States.{isIdle}
 use Rattle.controller.specs.Frame.{frameTo}
-use Rattle.demands.specs.Limits.{firstEcp}
+use Rattle.session_states.specs.Limits.{firstEcp}
 use Rattle.demands.specs.Events.{FrameReceived, noSession}
 use Rattle.demands.specs.Apart.{fromStation}
 use Rattle.demands.specs.Says.{Says}
-use Rattle.demands.specs.Kinds.{isStopping}
+use Rattle.session_states.specs.States.{isStopping}
 use Rattle.demands.specs.Silent.{feeds, Unheeded}
 use Rattle.demands.proofs.Tests.{same}
 use Rattle.demands.proofs.Apart.{says-from}
@@ -72,7 +72,7 @@ module _ (x : Settings) (source : ℕ) (s : Session) (n : ℕ) where
   fits-parameters Cem = refl
 
   fits-ready : (y : Bool) (k : ℕ) (m : ChargeMessage) → Fits (feeds (Ready y k) m) (inReady x y k n m)
-  unfolding Fits silenceAfter sessionAfter inReady readyOf crmOf feeds
+  unfolding Fits silenceAfter sessionAfter inReady readyOf crmInReady feeds
   fits-ready y k Cim = refl
   fits-ready y k (Cvm b) = refl
   fits-ready y k (Cmp o) = refl

@@ -13,28 +13,28 @@ use Rattle.settings.specs.declared.SettingsRead.the-variants as read
 use Rattle.settings.specs.Read.{readOf}
 use Rattle.controller.specs.Start.{freshOf}
 use Rattle.readings.specs.declared.Readings.{Readings}
-use Rattle.readings.specs.Readings.{wantedOf, aboveOf}
+use Rattle.readings.specs.Readings.{wantedOf}
 use Rattle.cells.specs.declared.Cells.{Cells}
 use Rattle.cells.specs.Summaries.{cellsOf}
 use Rattle.charge_messages.specs.declared.ChargeMessage.{ChargeMessage}
 use Rattle.charge_messages.specs.declared.ChargeMessage.the-variants.{Cim, Cvm, Cmp, Crm, Ccs, Cst, Cem}
-use Rattle.phases.specs.declared.Phase.{Phase}
-use Rattle.phases.specs.declared.Turned.{Turned}
-use Rattle.phases.specs.declared.Turned.the-variants as turned
-use Rattle.phases.specs.Phases.{turnedOf}
-use Rattle.states.specs.declared.Est.{Est}
-use Rattle.states.specs.declared.State.{State}
-use Rattle.states.specs.declared.State.the-variants.{Idle, Offered, Unverified, Parameters, Ready, Charging, Stopping, Error}
-use Rattle.turns.specs.declared.Turn.{Turn}
-use Rattle.turns.specs.declared.Turn.the-variants as turn
-use Rattle.turns.specs.Turns.{stopOf, estThen, waitingOf, phaseOn, phaseTurn, stopsOf, chargingOf, stoppingOf, errorOf, turnOf, cellFull, packFull}
+use Rattle.session_states.specs.declared.phases.Phase.{Phase}
+use Rattle.session_states.specs.declared.phases.PhaseAfter.{PhaseAfter}
+use Rattle.session_states.specs.declared.phases.PhaseAfter.the-variants as phase
+use Rattle.session_states.specs.Phases.{phaseAfter}
+use Rattle.session_states.specs.declared.states.Est.{Est}
+use Rattle.session_states.specs.declared.states.State.{State}
+use Rattle.session_states.specs.declared.states.State.the-variants.{Idle, Offered, Unverified, Parameters, Ready, Charging, Stopping, Error}
+use Rattle.session_by_tick.specs.declared.Turn.{Turn}
+use Rattle.session_by_tick.specs.declared.Turn.the-variants as turn
+use Rattle.session_by_tick.specs.Turns.{stopOf, estThen, waitingOf, phaseOn, phaseTurn, stopsOf, chargingOf, stoppingOf, errorOf, turnOf, cellFull, packFull}
 use Rattle.session.specs.declared.Session.{Session}
 use Rattle.session.specs.Tick.{turnedBy, turnIn}
-use Rattle.literal.specs.Literal.{older, grown, counted, literalIn, literalAdvance, literalTick}
+use Rattle.session_paper_counts.specs.Literal.{older, grown, counted, literalIn, literalAdvance, literalTick}
 use Rattle.controller.specs.declared.Controller.{Controller}
-use Rattle.demands.specs.Limits.{silenceLimit, closingLimit}
+use Rattle.session_states.specs.Limits.{silenceLimit, closingLimit}
 use Rattle.demands.specs.Machine.{paperNext}
-use Rattle.refusals.specs.Frame.{isIdle}
+use Rattle.session_states.specs.States.{isIdle}
 use Rattle.demands.specs.Events.{Event, FrameReceived, TickMade, RecordWritten, RecordRead, accepts, readInto, after, noSession, endsWithin}
 use Rattle.demands.specs.Says.{Says}
 use Rattle.demands.specs.Silent.{feeds, Unheeded, Silence, ticksIn, longest}
@@ -82,18 +82,18 @@ module _ (among : State → Bool) (these : ChargeMessage → Bool)
     unfolding Stays waitingOf
     stays-waiting b st h = either Stays (leb silenceLimit b) error (either Stays (wantedOf r) h tt)
 
-    stays-phase : (q : Turned) → ((p : Phase) → among (Charging p) ≡ true) → Stays (phaseOn x r c q)
+    stays-phase : (q : PhaseAfter) → ((p : Phase) → among (Charging p) ≡ true) → Stays (phaseOn x r c q)
     unfolding Stays phaseOn stopOf
-    stays-phase (turned.On p) h = h p
-    stays-phase (turned.Stop k) h = stopping _ _
+    stays-phase (phase.On p) h = h p
+    stays-phase (phase.Stop k) h = stopping _ _
 
     stays-charging : (b : ℕ) (p : Phase) → among (Charging p) ≡ true → Stays (chargingOf x r c b p)
     unfolding Stays chargingOf stopsOf phaseTurn stopOf
     stays-charging b p h =
         either Stays (leb silenceLimit b) error
         (either Stays (wantedOf r)
-        (either Stays (aboveOf (r .current) (x .current)) (stopping _ _)
-        (either Stays (packFull x r) (stopping _ _) (stays-phase (turnedOf p (cellFull x c)) (λ q. charging p q h))))
+        (either Stays (currentAbove x r) (stopping _ _)
+        (either Stays (packFull x r) (stopping _ _) (stays-phase (phaseAfter p (cellFull x c)) (λ q. charging p q h))))
         (stopping _ _))
 
     stays-turn : (n b : ℕ) (st : State) → among st ≡ true → Stays (turnOf x r c st n b)

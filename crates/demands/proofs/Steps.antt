@@ -17,21 +17,22 @@ use Rattle.cells.specs.Summaries.{cellsOf}
 use Rattle.charge_messages.specs.declared.Content.{Content}
 use Rattle.charge_messages.specs.declared.Content.the-variants as content
 use Rattle.charge_messages.specs.Content.{contentOf}
-use Rattle.states.specs.declared.State.{State}
-use Rattle.states.specs.declared.State.the-variants.{Idle, Offered, Unverified, Parameters, Ready, Charging, Stopping, Error}
+use Rattle.session_states.specs.declared.states.State.{State}
+use Rattle.session_states.specs.declared.states.State.the-variants.{Idle, Offered, Unverified, Parameters, Ready, Charging, Stopping, Error}
 use Rattle.session.specs.declared.Session.{Session}
 use Rattle.broadcasts.specs.Sendings.{broadcastAt}
-use Rattle.literal.specs.Folds.{folds, foldState}
-use Rattle.literal.proofs.InStep.{tick-in-step, frames-in-step}
-use Rattle.literal.proofs.Outcomes.{foldTaken, message-folds}
+use Rattle.session_paper_counts.specs.Folds.{folds, foldState}
+use Rattle.session_paper_counts.proofs.InStep.{tick-in-step, frames-in-step}
+use Rattle.session_paper_counts.proofs.Outcomes.{foldTaken, message-folds}
 use Rattle.controller.specs.declared.Controller.{Controller}
 use Rattle.controller.specs.declared.Answer.{Answer}
-use Rattle.refusals.specs.Frame.{isIdle, maySpeak}
+use Rattle.session_states.specs.States.{isIdle}
+use Rattle.refusals.specs.Frame.{maySpeak}
 use Rattle.controller.specs.Frame.{frameTo}
 use Rattle.controller.specs.Tick.{tickFrames, chargeFrames, broadcastFrames, cellFrames, tickNext}
 use Rattle.demands.specs.Machine.{paperNext}
 use Rattle.demands.specs.InStep.{codeOf}
-use Rattle.demands.proofs.FrameTo.{sessionMoved, queriesMoved}
+use Rattle.controller.specs.Frame.{sessionMoved, queriesMoved}
 use Rattle.demands.proofs.View.{contentOn, chargeOn, View, Refused, Asks, Charges, view}
 
 abbrev pub codeAnswer : Answer → Answer
@@ -44,7 +45,7 @@ idle-folds Idle = refl
 idle-folds Offered = refl
 idle-folds Unverified = refl
 idle-folds Parameters = refl
-idle-folds (Ready accepted most) = refl
+idle-folds (Ready accepted maximum) = refl
 idle-folds (Charging p) = refl
 idle-folds (Stopping acknowledged est) = refl
 idle-folds Error = refl

@@ -10,19 +10,19 @@ use Rattle.settings.specs.declared.Settings.{Settings}
 use Rattle.readings.specs.declared.Readings.{Readings}
 use Rattle.cells.specs.declared.Cells.{Cells}
 use Rattle.cells.specs.Summaries.{cellsOf}
-use Rattle.states.specs.declared.State.{State}
-use Rattle.states.specs.declared.State.the-variants.{Idle, Offered, Unverified, Parameters, Ready, Charging, Stopping, Error}
-use Rattle.phases.specs.declared.Turned.{Turned}
-use Rattle.phases.specs.declared.Turned.the-variants as turned
-use Rattle.phases.specs.Phases.{turnedOf}
-use Rattle.turns.specs.Turns.{cellFull, turnOf}
+use Rattle.session_states.specs.declared.states.State.{State}
+use Rattle.session_states.specs.declared.states.State.the-variants.{Idle, Offered, Unverified, Parameters, Ready, Charging, Stopping, Error}
+use Rattle.session_states.specs.declared.phases.PhaseAfter.{PhaseAfter}
+use Rattle.session_states.specs.declared.phases.PhaseAfter.the-variants as phase
+use Rattle.session_states.specs.Phases.{phaseAfter}
+use Rattle.session_by_tick.specs.Turns.{cellFull, turnOf}
 use Rattle.session.specs.Tick.{turnedBy, turnIn}
-use Rattle.literal.specs.Literal.{literalIn, literalAdvance, literalTick}
+use Rattle.session_paper_counts.specs.Literal.{literalIn, literalAdvance, literalTick}
 use Rattle.controller.specs.declared.Controller.{Controller}
-use Rattle.refusals.specs.Frame.{isIdle}
+use Rattle.session_states.specs.States.{isIdle}
 use Rattle.demands.specs.Machine.{paperNext}
 use Rattle.demands.specs.Events.{TickMade, accepts, after, noSession}
-use Rattle.demands.specs.Kinds.{isCharging}
+use Rattle.session_states.specs.States.{isCharging}
 use Rattle.demands.specs.Stops.{Why, GoesOn, AtSilenceLimit, NotWantedBefore, NotWantedCharging, CurrentAbove, PackFull, TimeUp, CellFull, AtClosingLimit}
 use Rattle.demands.specs.Stops.{whyOf, ChargesAs, GoesOnAs, LeadsTo, endsFor, leavesFor}
 use Rattle.demands.proofs.Messages.{mk}
@@ -40,10 +40,10 @@ charging-open (Stopping k e) h = refl
 charging-open Error h = refl
 
 module _ (x : Settings) (r : Readings) (c : Cells) where
-  charges-on : (t : Turned) (to : State) → ChargesAs x r c t to → isCharging to ≡ true
+  charges-on : (t : PhaseAfter) (to : State) → ChargesAs x r c t to → isCharging to ≡ true
   unfolding ChargesAs isCharging
-  charges-on (turned.On p) to e = ap isCharging e
-  charges-on (turned.Stop cause) to e = absurd e
+  charges-on (phase.On p) to e = ap isCharging e
+  charges-on (phase.Stop cause) to e = absurd e
 
   on-open : (from to : State) → isIdle from ≡ false → GoesOnAs x r c from to → isIdle to ≡ false
   unfolding GoesOnAs isIdle
@@ -52,7 +52,7 @@ module _ (x : Settings) (r : Readings) (c : Cells) where
   on-open Unverified to h e = ap isIdle e
   on-open Parameters to h e = ap isIdle e
   on-open (Ready y most) to h e = ap isIdle e
-  on-open (Charging p) to h e = charging-open to (charges-on (turnedOf p (cellFull x c)) to e)
+  on-open (Charging p) to h e = charging-open to (charges-on (phaseAfter p (cellFull x c)) to e)
   on-open (Stopping k f) to h e = ap isIdle e
   on-open Error to h e = ap isIdle e
 
@@ -75,7 +75,7 @@ module _ (x : Settings) (r : Readings) (c : Cells) where
   on-charging Unverified to h e = absurd (false≢true h)
   on-charging Parameters to h e = absurd (false≢true h)
   on-charging (Ready y most) to h e = absurd (false≢true h)
-  on-charging (Charging p) to h e = charges-on (turnedOf p (cellFull x c)) to e
+  on-charging (Charging p) to h e = charges-on (phaseAfter p (cellFull x c)) to e
   on-charging (Stopping k f) to h e = absurd (false≢true h)
   on-charging Error to h e = absurd (false≢true h)
 

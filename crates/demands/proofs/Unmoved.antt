@@ -10,16 +10,16 @@ use Rattle.settings.specs.declared.SettingsRead.the-variants as read
 use Rattle.settings.specs.Read.{readOf}
 use Rattle.readings.specs.declared.Readings.{Readings}
 use Rattle.messages.specs.Identifier.{partsOf}
-use Rattle.queries.specs.Asking.{askedOf}
+use Rattle.queries.specs.Asking.{queuedOf}
 use Rattle.controller.specs.declared.Controller.{Controller}
 use Rattle.controller.specs.declared.Answer.{Answer}
 use Rattle.controller.specs.Frame.{kindOf, frameTo}
 use Rattle.controller.specs.Tick.{broadcastFrames, cellFrames}
-use Rattle.demands.specs.With.{withSession}
+use Rattle.controller.specs.With.{withSession}
 use Rattle.demands.specs.Machine.{paperNext}
 use Rattle.demands.specs.Events.{Event, FrameReceived, TickMade, RecordWritten, RecordRead, accepts, readInto, after, isCharge}
 use Rattle.demands.specs.Unmoved.{isChargeMessage, others, Output, broadcastsAt, cellsAt, outputAt, outputs, Beside}
-use Rattle.demands.proofs.FrameTo.{sessionMoved, queriesMoved}
+use Rattle.controller.specs.Frame.{sessionMoved, queriesMoved}
 use Rattle.demands.proofs.View.{View, Refused, Asks, Charges, view}
 use Rattle.demands.proofs.Comes.{Comes, Left, Took, came}
 
@@ -44,7 +44,7 @@ module _ (c d : Controller) (a : Beside c d) where
   unfolding queriesMoved
   by-case id l (Refused n h each) f = rw (each c refl, each d same-own) (record { beside = a; number = refl })
   by-case id l (Asks q h each) f =
-      let asked : Controller → Answer = λ z. queriesMoved z (askedOf (z .queries) (partsOf id .source) (kindOf q)) in
+      let asked : Controller → Answer = λ z. queriesMoved z (queuedOf (z .queries) (partsOf id .source) (kindOf q)) in
       rw (each c refl, each d same-own)
       (record { beside = ap (λ (z : Controller). asked z .controller) a; number = ap (λ (z : Controller). asked z .number) a })
   by-case id l (Charges k h p each) f = absurd (false≢true (sym f ∙ h))

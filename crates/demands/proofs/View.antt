@@ -24,14 +24,14 @@ use Rattle.charge_messages.specs.Content.{contentOf}
 use Rattle.session.specs.declared.Session.{Session}
 use Rattle.session.specs.declared.Taken.{Taken}
 use Rattle.session.specs.Message.{messageOf}
-use Rattle.queries.specs.Asking.{askedOf}
+use Rattle.queries.specs.Asking.{queuedOf}
 use Rattle.refusals.specs.Frame.{notCan, flagsSet, notForUs, badSource, maySpeak}
 use Rattle.controller.specs.declared.Controller.{Controller}
 use Rattle.controller.specs.declared.Answer.{Answer}
 use Rattle.controller.specs.Frame.{refused, mayCharge, kindOf, frameTo}
-use Rattle.demands.specs.Checks.{longEnough, messageIn}
+use Rattle.refusals.specs.Frame.{longEnough, messageIn}
 use Rattle.demands.specs.Events.{chargeIn, queryIn, isCharge, isQuery}
-use Rattle.demands.proofs.FrameTo.{sessionMoved, contentTaken, chargeTo, queriesMoved, queryTo, messageTo, frame-view}
+use Rattle.controller.specs.Frame.{sessionMoved, contentTaken, chargeTo, queriesMoved, queryTo, messageTo, frame-view}
 
 -- ---- a charge message, by settings and session alone: refused by 9 or 10, else taken or refused by 11
 unfoldable pub contentOn : Settings → ℕ → Session → Content → Taken
@@ -67,7 +67,7 @@ module _ (own id : ℕ) (s : List ℕ) where
 
   long-fits : (p : Recognized) → Fits p (longEnough s p)
   unfolding longEnough Fits chargeIn
-  long-fits (recognized.As m) = either (recognized.As m) (ltb (length s) (rowOf m .2)) _ _ (λ e z. omega (arith, z)) refl
+  long-fits (recognized.As m) = either (recognized.As m) (ltb (length s) (leastLength m)) _ _ (λ e z. omega (arith, z)) refl
   long-fits (recognized.Refused n) = λ e z. false≢true e
 
   fits : Fits (recognizedOf (partsOf id .pf)) (messageIn own id s)
@@ -95,7 +95,7 @@ module _ (own id : ℕ) (s : List ℕ) where
     -- 3 to 8: a charge message is never refused by 0
     Refused : (n : ℕ) → (isCharge id ≡ true → n ≡ 0 → ⊥) → Each (refused n) → View
     -- a query, answered by the waiting queries: 12, 13 or 0
-    Asks : (q : Query) → isQuery id ≡ true → Each (λ c. queriesMoved c (askedOf (c .queries) (partsOf id .source) (kindOf q))) → View
+    Asks : (q : Query) → isQuery id ≡ true → Each (λ c. queriesMoved c (queuedOf (c .queries) (partsOf id .source) (kindOf q))) → View
     -- a charge message, answered by settings and session: 9, 10, 11 or 0
     Charges : (k : Charge) → isCharge id ≡ true → messageIn own id s ≡ recognized.As (message.Charge k)
         → Each (λ c. sessionMoved c (chargeOn (c .settings) (partsOf id .source) k s (c .session))) → View

@@ -4,13 +4,13 @@ use Prim.Native.Nat.{ℕ}
 use mathlib.Core.Path.{_≡_, refl}
 use Rattle.settings.specs.declared.Settings.{Settings}
 use Rattle.cells.specs.declared.Cells.{Cells}
-use Rattle.phases.specs.declared.Phase.the-variants.{Drive}
-use Rattle.layouts.specs.Layouts.{rawRequest, ecrFrame, ecrOf}
-use Rattle.layouts.proofs.WorkedRows as layouts
+use Rattle.session_states.specs.declared.phases.Phase.the-variants.{Drive}
+use Rattle.session_frames.specs.Layouts.{rawRequest, ecrFrame, ecrOf}
+use Rattle.session_frames.proofs.WorkedRows as layouts
 use Rattle.broadcasts.proofs.WorkedRows as broadcasts
 use Rattle.readings.proofs.WorkedRows as readings
-use Rattle.outcomes.proofs.WorkedRows as outcomes
-use Rattle.phases.proofs.WorkedRows as phases
+use Rattle.session_by_message.proofs.WorkedRows as outcomes
+use Rattle.session_states.proofs.WorkedRows as phases
 use Rattle.cells.proofs.WorkedRows as cells
 use Rattle.queries.proofs.WorkedRows as queries
 use Rattle.demands.specs.WorkedRows.{WorkedRows}

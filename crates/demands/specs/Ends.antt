@@ -13,10 +13,10 @@ use Rattle.settings.specs.Read.{readOf}
 use Rattle.cells.specs.Summaries.{cellsOf}
 use Rattle.charge_messages.specs.declared.ChargeMessage.{ChargeMessage}
 use Rattle.charge_messages.specs.declared.ChargeMessage.the-variants.{Cim, Cvm, Cmp, Crm, Ccs, Cst, Cem}
-use Rattle.states.specs.declared.State.{State}
+use Rattle.session_states.specs.declared.states.State.{State}
 use Rattle.controller.specs.declared.Controller.{Controller}
 use Rattle.demands.specs.Events.{Event, FrameReceived, TickMade, RecordRead, accepts, isRead}
-use Rattle.demands.specs.Kinds.{isStopping}
+use Rattle.session_states.specs.States.{isStopping}
 use Rattle.demands.specs.Stops.{whyOf, endsFor, leavesFor}
 use Rattle.demands.specs.Says.{Says}
 

@@ -16,7 +16,7 @@ use Rattle.settings.specs.declared.SettingsRead.{SettingsRead}
 use Rattle.settings.specs.declared.SettingsRead.the-variants as read
 use Rattle.settings.specs.Read.{readOf}
 use Rattle.controller.specs.declared.Controller.{Controller}
-use Rattle.refusals.specs.Frame.{isIdle}
+use Rattle.session_states.specs.States.{isIdle}
 use Rattle.controller.specs.Frame.{frameTo}
 use Rattle.refusals.specs.Tick.{tickNumber}
 use Rattle.controller.specs.Start.{freshOf}

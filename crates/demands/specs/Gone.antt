@@ -9,7 +9,7 @@ use Rattle.frames.specs.declared.Frame.{Frame}
 use Rattle.controller.specs.declared.Controller.{Controller}
 use Rattle.demands.specs.Machine.{Using, paperNext, seenOf, framesSeen}
 use Rattle.demands.specs.Events.{Event, callOf, after}
-use Rattle.demands.specs.Kinds.{isStopping}
+use Rattle.session_states.specs.States.{isStopping}
 
 -- among the frames is our EST to the session's station
 unfoldable pub holdsEst : Controller → List Frame → Bool

@@ -3,9 +3,9 @@
 -- counts. For `demand-2` and `demand-2-of-calls`.
 use Prim.Native.Nat.{_%_}
 use mathlib.Core.Path.{_≡_}
-use Rattle.literal.specs.Folds.{folds}
+use Rattle.session_paper_counts.specs.Folds.{folds}
 use Rattle.controller.specs.declared.Controller.{Controller}
-use Rattle.demands.specs.With.{withSession, withBeat}
+use Rattle.controller.specs.With.{withSession, withBeat}
 use Rattle.demands.specs.Machine.{Box, NoController, Using}
 
 -- the session's counts folded, the number of accepted ticks modulo 60, settings and waiting queries the same

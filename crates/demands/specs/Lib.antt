@@ -1,12 +1,8 @@
-pub mod Limits
-pub mod With
 pub mod Machine
 pub mod InStep
 pub mod Calls
 pub mod WorkedRows
 pub mod Events
-pub mod Kinds
-pub mod Checks
 pub mod Says
 pub mod Ends
 pub mod Over

@@ -16,7 +16,7 @@ use Rattle.settings.specs.Read.{recordNumber}
 use Rattle.settings.specs.Write.{writtenOf, laterOf}
 use Rattle.queries.specs.Waiting.{waiting, queriesOf}
 use Rattle.queries.specs.Answering as answering
-use Rattle.literal.specs.Literal.{literalTick}
+use Rattle.session_paper_counts.specs.Literal.{literalTick}
 use Rattle.controller.specs.declared.Controller.{Controller}
 use Rattle.controller.specs.declared.Start.{Start}
 use Rattle.controller.specs.declared.Start.the-variants.{Made, Refused}
@@ -24,7 +24,7 @@ use Rattle.controller.specs.Start.{startOf}
 use Rattle.controller.specs.Frame.{frameTo}
 use Rattle.refusals.specs.Tick.{tickNumber}
 use Rattle.controller.specs.Tick.{tickFrames, accepted}
-use Rattle.demands.specs.With.{withSession, withBeat, withQueries}
+use Rattle.controller.specs.With.{withSession, withBeat, withQueries}
 
 -- a call, with all that it lends: a settings record; a received frame, identifier and data; a tick, its readings,
 -- voltages and temperatures and the buffer as it is; settings written, with the buffer as it is
@@ -74,8 +74,8 @@ module _ (next : Controller → Readings → List ℕ → List ℤ → Controlle
   seenOf NoController (Tick r v t old) = Nothing
   seenOf (Using c) (Tick r v t old) =
       cond (accepted c r v t (length old))
-      (Gave 0 (13 * length (tickFrames c r v t)) (tickFrames c r v t)
-      (recordsOf (tickFrames c r v t) ++ drop (13 * length (tickFrames c r v t)) old))
+      (Gave 0 (recordSize * length (tickFrames c r v t)) (tickFrames c r v t)
+      (recordsOf (tickFrames c r v t) ++ drop (recordSize * length (tickFrames c r v t)) old))
       (Gave (tickNumber r v t (length old)) 0 [] old)
   seenOf NoController (Write old) = Nothing
   seenOf (Using c) (Write old) =

@@ -6,7 +6,7 @@ use mathlib.Core.Bool.{true}
 use mathlib.Core.List.{List}
 use Rattle.messages.specs.Identifier.{partsOf}
 use Rattle.charge_messages.specs.declared.ChargeMessage.the-variants.{Cim}
-use Rattle.states.specs.declared.State.the-variants.{Offered}
+use Rattle.session_states.specs.declared.states.State.the-variants.{Offered}
 use Rattle.session.specs.declared.Session.{Session}
 use Rattle.controller.specs.declared.Controller.{Controller}
 use Rattle.refusals.specs.Frame.{listed}

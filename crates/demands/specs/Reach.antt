@@ -15,19 +15,19 @@ use Rattle.readings.specs.Readings.{wantedOf}
 use Rattle.charge_messages.specs.declared.Offer.{Offer}
 use Rattle.charge_messages.specs.declared.ChargeMessage.{ChargeMessage}
 use Rattle.charge_messages.specs.declared.ChargeMessage.the-variants.{Cim, Cvm, Cmp, Crm, Ccs, Cst, Cem}
-use Rattle.phases.specs.Phases.{startPhase}
-use Rattle.states.specs.declared.State.the-variants.{Charging}
-use Rattle.outcomes.specs.Offer.{acceptedOf, stationMost}
-use Rattle.outcomes.specs.Message.{goneOut}
+use Rattle.session_states.specs.Phases.{startPhase}
+use Rattle.session_states.specs.declared.states.State.the-variants.{Charging}
+use Rattle.session_by_message.specs.Offer.{acceptedOf, stationMaximum}
+use Rattle.session_by_message.specs.Message.{goneOut}
 use Rattle.session.specs.declared.Session.{Session}
-use Rattle.demands.specs.Limits.{silenceLimit, firstEcp}
+use Rattle.session_states.specs.Limits.{silenceLimit, firstEcp}
 use Rattle.demands.specs.Events.{Event, FrameReceived, TickMade, RecordWritten, RecordRead, accepts, isRead}
 use Rattle.demands.specs.Says.{Says}
 
 -- the session where Charging begins, with the offer of the station's last CMP
 abbrev pub chargingWith : Settings → ℕ → Offer → Session
 chargingWith x st o =
-    record { station = st; silence = 0; count = 0; state = Charging (startPhase (x .current) (stationMost o)) }
+    record { station = st; silence = 0; count = 0; state = Charging (startPhase (x .limits .current) (stationMaximum o)) }
 
 pub data Stretch : Type 0 where
   UntilCvm : Stretch

@@ -15,7 +15,7 @@ use Rattle.charge_messages.specs.declared.ChargeMessage.{ChargeMessage}
 use Rattle.charge_messages.specs.declared.ChargeMessage.the-variants.{Cim, Cvm, Cmp, Crm, Ccs, Cst, Cem}
 use Rattle.charge_messages.specs.declared.Content.the-variants.{Allowed}
 use Rattle.charge_messages.specs.Content.{contentOf}
-use Rattle.demands.specs.Checks.{messageIn}
+use Rattle.refusals.specs.Frame.{messageIn}
 
 -- the row of the table that a message has
 abbrev pub chargeOf : ChargeMessage → Charge

@@ -7,10 +7,10 @@ use mathlib.Core.Bool.{Bool, true, false, not, cond, _&&_}
 use mathlib.Core.List.{List, [], _∷_}
 use Rattle.charge_messages.specs.declared.ChargeMessage.{ChargeMessage}
 use Rattle.charge_messages.specs.declared.ChargeMessage.the-variants.{Cim, Cvm, Cmp, Crm, Ccs, Cst, Cem}
-use Rattle.states.specs.declared.State.{State}
-use Rattle.states.specs.declared.State.the-variants.{Idle, Offered, Unverified, Parameters, Ready, Charging, Stopping, Error}
+use Rattle.session_states.specs.declared.states.State.{State}
+use Rattle.session_states.specs.declared.states.State.the-variants.{Idle, Offered, Unverified, Parameters, Ready, Charging, Stopping, Error}
 use Rattle.controller.specs.declared.Controller.{Controller}
-use Rattle.demands.specs.Limits.{silenceLimit, closingLimit}
+use Rattle.session_states.specs.Limits.{silenceLimit, closingLimit}
 use Rattle.demands.specs.Events.{Event, FrameReceived, TickMade, RecordWritten, RecordRead, accepts, after, noSession, endsWithin}
 use Rattle.demands.specs.Apart.{fromStation}
 use Rattle.demands.specs.Says.{Says}
@@ -36,13 +36,13 @@ feeds Parameters (Crm b) = true
 feeds Parameters (Ccs b) = true
 feeds Parameters (Cst b) = true
 feeds Parameters Cem = true
-feeds (Ready accepted most) Cim = false
-feeds (Ready accepted most) (Cvm b) = true
-feeds (Ready accepted most) (Cmp o) = true
-feeds (Ready accepted most) (Crm b) = true
-feeds (Ready accepted most) (Ccs b) = true
-feeds (Ready accepted most) (Cst b) = true
-feeds (Ready accepted most) Cem = true
+feeds (Ready accepted maximum) Cim = false
+feeds (Ready accepted maximum) (Cvm b) = true
+feeds (Ready accepted maximum) (Cmp o) = true
+feeds (Ready accepted maximum) (Crm b) = true
+feeds (Ready accepted maximum) (Ccs b) = true
+feeds (Ready accepted maximum) (Cst b) = true
+feeds (Ready accepted maximum) Cem = true
 feeds (Charging p) Cim = false
 feeds (Charging p) (Cvm b) = false
 feeds (Charging p) (Cmp o) = false

@@ -7,21 +7,21 @@ use mathlib.Core.Bool.{Bool, true, false, cond, _&&_, _||_}
 use lib.Dec.{leb, ltb}
 use Rattle.settings.specs.declared.Settings.{Settings}
 use Rattle.readings.specs.declared.Readings.{Readings}
-use Rattle.readings.specs.Readings.{wantedOf, aboveOf}
+use Rattle.readings.specs.Readings.{wantedOf}
 use Rattle.cells.specs.declared.Cells.{Cells}
-use Rattle.phases.specs.declared.Phase.{Phase}
-use Rattle.phases.specs.declared.Phase.the-variants.{Drive, Rest, Hold}
-use Rattle.phases.specs.declared.Cause.{Cause}
-use Rattle.phases.specs.declared.Cause.the-variants.{PackVoltage, HoldCell, Other}
-use Rattle.phases.specs.declared.Turned.{Turned}
-use Rattle.phases.specs.declared.Turned.the-variants as turned
-use Rattle.phases.specs.Phases.{turnedOf}
-use Rattle.states.specs.declared.State.{State}
-use Rattle.states.specs.declared.State.the-variants.{Idle, Offered, Unverified, Parameters, Ready, Charging, Stopping, Error}
-use Rattle.turns.specs.Turns.{cellFull, packFull, estOf, estThen}
+use Rattle.session_states.specs.declared.phases.Phase.{Phase}
+use Rattle.session_states.specs.declared.phases.Phase.the-variants.{Drive, Rest, Hold}
+use Rattle.session_states.specs.declared.phases.Cause.{Cause}
+use Rattle.session_states.specs.declared.phases.Cause.the-variants.{PackVoltage, HoldCell, Other}
+use Rattle.session_states.specs.declared.phases.PhaseAfter.{PhaseAfter}
+use Rattle.session_states.specs.declared.phases.PhaseAfter.the-variants as phase
+use Rattle.session_states.specs.Phases.{phaseAfter}
+use Rattle.session_states.specs.declared.states.State.{State}
+use Rattle.session_states.specs.declared.states.State.the-variants.{Idle, Offered, Unverified, Parameters, Ready, Charging, Stopping, Error}
+use Rattle.session_by_tick.specs.Turns.{cellFull, packFull, estOf, estThen}
 use Rattle.session.specs.declared.Session.{Session}
-use Rattle.literal.specs.Literal.{older}
-use Rattle.demands.specs.Limits.{silenceLimit, closingLimit, driveLimit, restLimit, holdLimit, leastRequest, mostDrives}
+use Rattle.session_paper_counts.specs.Literal.{older}
+use Rattle.session_states.specs.Limits.{silenceLimit, closingLimit, driveLimit, restLimit, holdLimit, leastRequest, mostDrives}
 
 -- the rule that holds, or that none does
 pub data Why : Type 0 where
@@ -61,7 +61,7 @@ module _ (x : Settings) (r : Readings) (c : Cells) where
   whyCharging silence p =
       cond (leb silenceLimit silence) AtSilenceLimit
       (cond (wantedOf r)
-      (cond (aboveOf (r .current) (x .current)) CurrentAbove
+      (cond (currentAbove x r) CurrentAbove
       (cond (packFull x r) PackFull (cond (timeUp p) TimeUp (cond (inHold p && cellFull x c) CellFull GoesOn))))
       NotWantedCharging)
 
@@ -73,7 +73,7 @@ module _ (x : Settings) (r : Readings) (c : Cells) where
   whyIn count silence Offered = whyWaiting silence
   whyIn count silence Unverified = whyWaiting silence
   whyIn count silence Parameters = whyWaiting silence
-  whyIn count silence (Ready accepted most) = whyWaiting silence
+  whyIn count silence (Ready accepted maximum) = whyWaiting silence
   whyIn count silence (Charging p) = whyCharging silence p
   whyIn count silence (Stopping acknowledged est) = whyClosing count
   whyIn count silence Error = whyClosing count
@@ -82,9 +82,9 @@ module _ (x : Settings) (r : Readings) (c : Cells) where
   whyOf s = whyIn (s .count) (s .silence) (s .state)
 
   -- Charging goes on in the phase that the phase's own rules lead to, one tick older
-  unfoldable pub ChargesAs : Turned → State → Type 0
-  ChargesAs (turned.On p) to = to ≡ Charging (older p)
-  ChargesAs (turned.Stop cause) to = ⊥
+  unfoldable pub ChargesAs : PhaseAfter → State → Type 0
+  ChargesAs (phase.On p) to = to ≡ Charging (older p)
+  ChargesAs (phase.Stop cause) to = ⊥
 
   -- where no rule holds the state is as it was, but that Charging goes on by its phase, and Stopping has its EST bytes
   -- fixed by now
@@ -93,8 +93,8 @@ module _ (x : Settings) (r : Readings) (c : Cells) where
   GoesOnAs Offered to = to ≡ Offered
   GoesOnAs Unverified to = to ≡ Unverified
   GoesOnAs Parameters to = to ≡ Parameters
-  GoesOnAs (Ready accepted most) to = to ≡ Ready accepted most
-  GoesOnAs (Charging p) to = ChargesAs (turnedOf p (cellFull x c)) to
+  GoesOnAs (Ready accepted maximum) to = to ≡ Ready accepted maximum
+  GoesOnAs (Charging p) to = ChargesAs (phaseAfter p (cellFull x c)) to
   GoesOnAs (Stopping acknowledged est) to = to ≡ Stopping acknowledged (estThen x r c est)
   GoesOnAs Error to = to ≡ Error
 

@@ -10,7 +10,7 @@ use Rattle.readings.specs.declared.Readings.{Readings}
 use Rattle.controller.specs.declared.Controller.{Controller}
 use Rattle.controller.specs.Frame.{frameTo}
 use Rattle.controller.specs.Tick.{broadcastFrames, cellFrames}
-use Rattle.demands.specs.With.{withSession}
+use Rattle.controller.specs.With.{withSession}
 use Rattle.demands.specs.Events.{Event, FrameReceived, TickMade, RecordWritten, RecordRead, accepts, after, isCharge}
 
 -- a frame that by its PF is a charge message, well formed or not, from any address

@@ -13,16 +13,16 @@ use Rattle.readings.specs.declared.Readings.{Readings}
 use Rattle.readings.specs.Readings.{rawOf}
 use Rattle.cells.specs.declared.Cells.{Cells}
 use Rattle.cells.specs.Summaries.{summaryOf, averageOf}
-use Rattle.phases.specs.declared.Phase.the-variants.{Drive, Rest, Hold}
-use Rattle.phases.specs.declared.Turned.the-variants.{On}
-use Rattle.phases.specs.Phases.{startPhase, turnedOf}
-use Rattle.outcomes.specs.Offer.{tenthsOf}
-use Rattle.layouts.specs.Layouts.{holdVoltage, rawRequest, ecrFrame, ecrOf, eimOf, eemOf}
+use Rattle.session_states.specs.declared.phases.Phase.the-variants.{Drive, Rest, Hold}
+use Rattle.session_states.specs.declared.phases.PhaseAfter.the-variants.{On}
+use Rattle.session_states.specs.Phases.{startPhase, phaseAfter}
+use Rattle.session_by_message.specs.Offer.{tenthsOf}
+use Rattle.session_frames.specs.Layouts.{holdVoltage, rawRequest, ecrFrame, ecrOf, eimOf, eemOf}
 use Rattle.broadcasts.specs.Layouts.{psOf}
 use Rattle.queries.specs.declared.Kind.the-variants.{Voltages, Temperatures}
 use Rattle.queries.specs.declared.Query.{Query}
 use Rattle.queries.specs.Answering.{rowOf, groupFrame, pastEnd, atLast}
-use Rattle.demands.specs.Limits.{restLimit}
+use Rattle.session_states.specs.Limits.{restLimit}
 
 -- a query that waits at a group, counted from 0
 abbrev pub voltagesAt : ℕ → ℕ → Query
@@ -49,17 +49,17 @@ pub record WorkedRows : Type 0 where
   pub offered-1-2 : tenthsOf 3988 ≡ pos 12
   pub offered-minus-50 : tenthsOf 4500 ≡ negsuc 499
   -- maximum pack voltage 65535: 48 cells hold at 1704; 3 at 106
-  pub hold-48 : (x : Settings) (c : Cells) → x .pack .0 ≡ 65535 → c .volts .count ≡ 48 → holdVoltage x c ≡ 1704
-  pub hold-3 : (x : Settings) (c : Cells) → x .pack .0 ≡ 65535 → c .volts .count ≡ 3 → holdVoltage x c ≡ 106
+  pub hold-48 : (x : Settings) (c : Cells) → x .limits .pack .0 ≡ 65535 → c .volts .count ≡ 48 → holdVoltage x c ≡ 1704
+  pub hold-3 : (x : Settings) (c : Cells) → x .limits .pack .0 ≡ 65535 → c .volts .count ≡ 3 → holdVoltage x c ≡ 106
   -- 400 is asked 400, 200, 100, then Hold: each Drive goes to Rest at a full cell, each Rest of 6000 ticks to what
   -- follows
   pub asked-400 : startPhase 400 400 ≡ Drive 400 1 0
-  pub rest-400 : turnedOf (Drive 400 1 0) true ≡ On (Rest 400 1 0)
-  pub asked-200 : turnedOf (Rest 400 1 restLimit) false ≡ On (Drive 200 2 0)
-  pub rest-200 : turnedOf (Drive 200 2 0) true ≡ On (Rest 200 2 0)
-  pub asked-100 : turnedOf (Rest 200 2 restLimit) false ≡ On (Drive 100 3 0)
-  pub rest-100 : turnedOf (Drive 100 3 0) true ≡ On (Rest 100 3 0)
-  pub then-hold : turnedOf (Rest 100 3 restLimit) false ≡ On (Hold 0)
+  pub rest-400 : phaseAfter (Drive 400 1 0) true ≡ On (Rest 400 1 0)
+  pub asked-200 : phaseAfter (Rest 400 1 restLimit) false ≡ On (Drive 200 2 0)
+  pub rest-200 : phaseAfter (Drive 200 2 0) true ≡ On (Rest 200 2 0)
+  pub asked-100 : phaseAfter (Rest 200 2 restLimit) false ≡ On (Drive 100 3 0)
+  pub rest-100 : phaseAfter (Drive 100 3 0) true ≡ On (Rest 100 3 0)
+  pub then-hold : phaseAfter (Rest 100 3 restLimit) false ≡ On (Hold 0)
   -- which ECR says in mode 02 with voltage 0, as 4000 minus each
   pub ecr-400 : (x : Settings) (station cycle time : ℕ) (c : Cells) → ecrOf x station c (Drive 400 cycle time) ≡ ecrFrame x station 0 3600 0x02
   pub ecr-200 : (x : Settings) (station cycle time : ℕ) (c : Cells) → ecrOf x station c (Drive 200 cycle time) ≡ ecrFrame x station 0 3800 0x02
@@ -67,8 +67,8 @@ pub record WorkedRows : Type 0 where
   -- R 60 drives, 59 holds: at the start and after a Rest
   pub drives-60 : startPhase 400 60 ≡ Drive 60 1 0
   pub holds-59 : startPhase 400 59 ≡ Hold 0
-  pub drives-60-again : turnedOf (Rest 120 1 restLimit) false ≡ On (Drive 60 2 0)
-  pub holds-59-then : turnedOf (Rest 119 1 restLimit) false ≡ On (Hold 0)
+  pub drives-60-again : phaseAfter (Rest 120 1 restLimit) false ≡ On (Drive 60 2 0)
+  pub holds-59-then : phaseAfter (Rest 119 1 restLimit) false ≡ On (Hold 0)
   -- voltages 330, 331 average 330
   pub average : averageOf (summaryOf (330 ∷ 331 ∷ [])) ≡ 330
   -- equal cells give index 1, however many they are
