@@ -11,7 +11,7 @@ use lib.Dec.{eqb}
 use lib.IntN.{ℤ}
 use lib.ListN.{length, drop}
 use Rattle.frames.specs.declared.Frame.{Frame}
-use Rattle.frames.specs.Frame.{recordsOf}
+use Rattle.frames.specs.Frame.{recordSize, recordsOf}
 use Rattle.readings.specs.declared.Readings.{Readings}
 use Rattle.settings.specs.declared.Settings.{Settings}
 use Rattle.settings.specs.declared.Written.{Written}

@@ -136,7 +136,7 @@ module _ (c : Controller) (r : Readings) (k : Cells) (rest : List Frame) where
   state-sends b n Offered h = absurd (false≢true h)
   state-sends b n Unverified h = absurd (false≢true h)
   state-sends b n Parameters h = absurd (false≢true h)
-  state-sends b n (Ready y most) h = absurd (false≢true h)
+  state-sends b n (Ready y maximum) h = absurd (false≢true h)
   state-sends b n (Charging p) h = absurd (false≢true h)
   state-sends b n (Stopping y e) h = record { count = lt-ltb 0 (n + 1) (omega arith); est = est-first y e _ }
   state-sends b n Error h = absurd (false≢true h)

@@ -61,14 +61,14 @@ module _ (x : Settings) (source a b n : ℕ) where
   ends-message Parameters (Ccs v) h = refl
   ends-message Parameters (Cst v) h = and-false v
   ends-message Parameters Cem h = refl
-  ends-message (Ready y most) Cim h = refl
-  ends-message (Ready y most) (Cvm v) h = refl
-  ends-message (Ready y most) (Cmp o) h = refl
-  ends-message (Ready y most) (Crm v) h =
-      same (idleAfter (Ready y most)) (y && ltb 0 n) (same (idleAfter (Ready y most)) v refl refl) refl
-  ends-message (Ready y most) (Ccs v) h = refl
-  ends-message (Ready y most) (Cst v) h = and-false v
-  ends-message (Ready y most) Cem h = refl
+  ends-message (Ready y maximum) Cim h = refl
+  ends-message (Ready y maximum) (Cvm v) h = refl
+  ends-message (Ready y maximum) (Cmp o) h = refl
+  ends-message (Ready y maximum) (Crm v) h =
+      same (idleAfter (Ready y maximum)) (y && ltb 0 n) (same (idleAfter (Ready y maximum)) v refl refl) refl
+  ends-message (Ready y maximum) (Ccs v) h = refl
+  ends-message (Ready y maximum) (Cst v) h = and-false v
+  ends-message (Ready y maximum) Cem h = refl
   ends-message (Charging p) Cim h = refl
   ends-message (Charging p) (Cvm v) h = refl
   ends-message (Charging p) (Cmp o) h = refl
@@ -105,7 +105,7 @@ module _ (x : Settings) (source a b n : ℕ) where
   leaves-message Offered m h = absurd (false≢true h)
   leaves-message Unverified m h = absurd (false≢true h)
   leaves-message Parameters m h = absurd (false≢true h)
-  leaves-message (Ready y most) m h = absurd (false≢true h)
+  leaves-message (Ready y maximum) m h = absurd (false≢true h)
   leaves-message (Charging p) Cim h = refl
   leaves-message (Charging p) (Cvm v) h = refl
   leaves-message (Charging p) (Cmp o) h = refl

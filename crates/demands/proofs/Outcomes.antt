@@ -5,6 +5,7 @@ use mathlib.Core.Path.{_≡_, refl}
 use mathlib.Core.Bool.{Bool, true, false, cond, _&&_}
 use lib.Dec.{ltb}
 use Rattle.buffers.proofs.Tests.{and-right}
+use Rattle.units.specs.declared.TenthAmps.{TenthAmps}
 use Rattle.settings.specs.declared.Settings.{Settings}
 use Rattle.charge_messages.specs.declared.ChargeMessage.{ChargeMessage}
 use Rattle.charge_messages.specs.declared.ChargeMessage.the-variants.{Cim, Cvm, Cmp, Crm, Ccs, Cst, Cem}
@@ -29,9 +30,10 @@ module _ (x : Settings) (n : ℕ) where
     ToUnverified : ltb 0 n ≡ true → Leads Offered (Enter Unverified)
     ToParameters : ltb 0 n ≡ true → Leads Offered (Enter Parameters)
     ToParametersLater : Leads Unverified (Enter Parameters)
-    ToReady : {y : Bool} {most : ℕ} → ltb firstEcp n ≡ true → Leads Parameters (Enter (Ready y most))
-    ToReadyAgain : {y z : Bool} {most k : ℕ} → Leads (Ready y most) (Enter (Ready z k))
-    ToCharging : {y : Bool} {most : ℕ} → ltb 0 n ≡ true → Leads (Ready y most) (Enter (Charging (startPhase (x .limits .current) most)))
+    ToReady : {y : Bool} {maximum : TenthAmps} → ltb firstEcp n ≡ true → Leads Parameters (Enter (Ready y maximum))
+    ToReadyAgain : {y z : Bool} {maximum k : TenthAmps} → Leads (Ready y maximum) (Enter (Ready z k))
+    ToCharging : {y : Bool} {maximum : TenthAmps} → ltb 0 n ≡ true
+        → Leads (Ready y maximum) (Enter (Charging (startPhase (x .limits .current) maximum)))
     ToStopping : {st : State} {k : Bool} → isStopping st ≡ false → Leads st (Enter (Stopping k Awaited))
     MarksIt : {k : Bool} {e : Est} → Leads (Stopping k e) (Keep (Stopping true e))
     EndsIt : {st : State} → Leads st End

@@ -34,7 +34,7 @@ use Rattle.session_by_message.specs.declared.Outcome.the-variants.{Enter, End}
 use Rattle.session_by_message.specs.Message.{outcomeOf}
 use Rattle.session_by_tick.specs.declared.Turn.{Turn}
 use Rattle.session_by_tick.specs.declared.Turn.the-variants as turn
-use Rattle.session_by_tick.specs.Turns.{stopOf, estThen, waitingOf, phaseOn, phaseTurn, stopsOf, chargingOf, stoppingOf, errorOf, turnOf, cellFull, packFull}
+use Rattle.session_by_tick.specs.Turns.{currentAbove, stopOf, estThen, waitingOf, phaseOn, phaseTurn, stopsOf, chargingOf, stoppingOf, errorOf, turnOf, cellFull, packFull}
 use Rattle.session.specs.declared.Session.{Session}
 use Rattle.session.specs.Message.{sessionAfter, appliedOf, messageOf}
 use Rattle.session.specs.Tick.{turnedBy, turnIn}
@@ -58,7 +58,7 @@ needs Idle n = 0
 needs Offered n = n
 needs Unverified n = 1
 needs Parameters n = 1 + n
-needs (Ready y most) n = 7 + n
+needs (Ready y maximum) n = 7 + n
 needs (Charging p) n = 8
 needs (Stopping k e) n = 0
 needs Error n = 0
@@ -118,7 +118,7 @@ next-on s Idle = omega arith
 next-on s Offered = omega arith
 next-on s Unverified = omega arith
 next-on s Parameters = omega arith
-next-on s (Ready y most) = omega arith
+next-on s (Ready y maximum) = omega arith
 next-on s (Charging p) = omega arith
 next-on s (Stopping k e) = omega arith
 next-on s Error = omega arith
@@ -174,7 +174,7 @@ module _ (x : Settings) (r : Readings) (c : Cells) (s : Session) where
   turn-needs Offered = waiting-needs s Offered (leb silenceLimit (s .silence)) (wantedOf r)
   turn-needs Unverified = waiting-needs s Unverified (leb silenceLimit (s .silence)) (wantedOf r)
   turn-needs Parameters = waiting-needs s Parameters (leb silenceLimit (s .silence)) (wantedOf r)
-  turn-needs (Ready y most) = waiting-needs s (Ready y most) (leb silenceLimit (s .silence)) (wantedOf r)
+  turn-needs (Ready y maximum) = waiting-needs s (Ready y maximum) (leb silenceLimit (s .silence)) (wantedOf r)
   turn-needs (Charging p) =
       charging-turn (phaseAfter p (cellFull x c)) (leb silenceLimit (s .silence)) (wantedOf r) (currentAbove x r) (packFull x r)
   turn-needs (Stopping k e) = closing-needs s (Stopping k (estThen x r c e)) (leb closingLimit (s .count))
@@ -221,7 +221,7 @@ charging-eight Idle n h = absurd (false≢true h)
 charging-eight Offered n h = absurd (false≢true h)
 charging-eight Unverified n h = absurd (false≢true h)
 charging-eight Parameters n h = absurd (false≢true h)
-charging-eight (Ready y most) n h = absurd (false≢true h)
+charging-eight (Ready y maximum) n h = absurd (false≢true h)
 charging-eight (Charging p) n h = refl
 charging-eight (Stopping k e) n h = absurd (false≢true h)
 charging-eight Error n h = absurd (false≢true h)

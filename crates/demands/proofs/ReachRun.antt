@@ -9,7 +9,7 @@ use mathlib.Core.List.{List, [], _∷_}
 use lib.IntN.{pos}
 use Rattle.messages.specs.Identifier.{partsOf}
 use Rattle.settings.specs.declared.Settings.{Settings}
-use Rattle.settings.specs.Range.{within, goodStations, inRange}
+use Rattle.settings.specs.Range.{within, goodStations, inRange, limitsInRange}
 use Rattle.charge_messages.specs.declared.Offer.{Offer}
 use Rattle.charge_messages.specs.declared.ChargeMessage.the-variants.{Cim, Cvm, Cmp, Crm}
 use Rattle.charge_messages.specs.Content.{contentOf}
@@ -33,24 +33,27 @@ abbrev pub ours : Settings
 ours =
     record {
       own = 0xf4;
-      cell = record { 0 = 365 };
-      current = 1000;
-      pack = record { 0 = 600 };
-      temperature = 180;
+      limits =
+          record {
+            cell = record { 0 = 365 };
+            current = record { 0 = 1000 };
+            pack = record { 0 = 600 };
+            temperature = record { 0 = 180 };
+          };
       stations = record { count = 2; first = 0x56; second = 0x57; third = 0; fourth = 0 };
       versions = record { first = 0; second = 0; third = 0; fourth = 0; fifth = 0 };
     }
 
 settings-good : inRange ours ≡ true
-unfolding inRange within goodStations
+unfolding inRange limitsInRange within goodStations
 settings-good = refl
 
 -- a CMP of 0 V to 100.0 V and 0 A to 200.0 A, and one of 0 V to 50.0 V, which the yes rule does not accept
 abbrev offer : Offer
-offer = record { highest = record { 0 = 1000 }; lowest = record { 0 = 0 }; most = 2000; least = 4000 }
+offer = record { highest = record { 0 = 1000 }; lowest = record { 0 = 0 }; most = record { 0 = 2000 }; least = record { 0 = 4000 } }
 
 abbrev lowOffer : Offer
-lowOffer = record { highest = record { 0 = 500 }; lowest = record { 0 = 0 }; most = 2000; least = 4000 }
+lowOffer = record { highest = record { 0 = 500 }; lowest = record { 0 = 0 }; most = record { 0 = 2000 }; least = record { 0 = 4000 } }
 
 abbrev pub cimData : List ℕ
 cimData = 0x01 ∷ 0x01 ∷ 0x00 ∷ []

@@ -6,6 +6,7 @@ use mathlib.Core.Path.{_≡_, refl}
 use mathlib.Core.Bool.{Bool, true, false, not, cond, _&&_, false≢true}
 use lib.Dec.{leb, ltb}
 use borrow.Author.Tests.{lt-ltb, ltb-true}
+use Rattle.units.specs.declared.TenthAmps.{TenthAmps}
 use Rattle.settings.specs.declared.Settings.{Settings}
 use Rattle.readings.specs.declared.Readings.{Readings}
 use Rattle.readings.specs.Readings.{wantedOf}
@@ -37,7 +38,7 @@ pub data At (o : Offer) : Stretch → ℕ → State → ℕ → Type 0 where
   AtOffered : {n : ℕ} → At o UntilCvm n Offered n
   AtUnverified : {n : ℕ} → At o UntilVerified n Unverified n
   AtParameters : {n : ℕ} → At o UntilCmp n Parameters n
-  AtReady : {n m most : ℕ} {accepted : Bool} → firstEcp + 1 ≤ n → At o UntilCmp n (Ready accepted maximum) m
+  AtReady : {n m : ℕ} {maximum : TenthAmps} {accepted : Bool} → firstEcp + 1 ≤ n → At o UntilCmp n (Ready accepted maximum) m
   AtLast : {n : ℕ} → At o UntilCrm n (Ready true (stationMaximum o)) n
 
 pub at-next : (o : Offer) (k : Stretch) (n m : ℕ) (st : State) → At o k n st m → At o k (n + 1) st (m + 1)
@@ -140,23 +141,23 @@ module _ (x : Settings) (a : ℕ) (o : Offer) where
     in-parameters n Cem h = absurd (false≢true h)
 
     -- CRM 00 and FF stay in Ready, taken or not
-    crm-stays : (k : Stretch) (n m most : ℕ) (accepted g : Bool) → At o k n (Ready accepted maximum) m
-        → Word k n (comes m (Ready accepted maximum) (cond g (cond false (Enter (Charging (startPhase (x .limits .current) most))) Heard) OutOfStep))
-    crm-stays k n m most accepted true p = stays-heard k n m (Ready accepted maximum) p
-    crm-stays k n m most accepted false p = stays-out k n m (Ready accepted maximum) p
+    crm-stays : (k : Stretch) (n m : ℕ) (maximum : TenthAmps) (accepted g : Bool) → At o k n (Ready accepted maximum) m
+        → Word k n (comes m (Ready accepted maximum) (cond g (cond false (Enter (Charging (startPhase (x .limits .current) maximum))) Heard) OutOfStep))
+    crm-stays k n m maximum accepted true p = stays-heard k n m (Ready accepted maximum) p
+    crm-stays k n m maximum accepted false p = stays-out k n m (Ready accepted maximum) p
 
-    in-ready : (n m most : ℕ) (accepted : Bool) (w : ChargeMessage) → firstEcp + 1 ≤ n → besides UntilCmp n w ≡ true
+    in-ready : (n m : ℕ) (maximum : TenthAmps) (accepted : Bool) (w : ChargeMessage) → firstEcp + 1 ≤ n → besides UntilCmp n w ≡ true
         → Word UntilCmp n (comes m (Ready accepted maximum) (inReady x accepted maximum m w))
     unfolding besides inReady readyOf crmInReady
-    in-ready n m most accepted Cim l h = absurd (false≢true h)
-    in-ready n m most accepted (Cvm v) l h = stays-out UntilCmp n m (Ready accepted maximum) (AtReady l)
-    in-ready n m most accepted (Cmp p) l h =
+    in-ready n m maximum accepted Cim l h = absurd (false≢true h)
+    in-ready n m maximum accepted (Cvm v) l h = stays-out UntilCmp n m (Ready accepted maximum) (AtReady l)
+    in-ready n m maximum accepted (Cmp p) l h =
         enters UntilCmp n m (Ready accepted maximum) (Ready (acceptedOf x p) (stationMaximum p)) (AtReady l)
-    in-ready n m most accepted (Crm true) l h = absurd (false≢true (not-both (ltb firstEcp n) (lt-ltb firstEcp n l) h))
-    in-ready n m most accepted (Crm false) l h = crm-stays UntilCmp n m most accepted (accepted && ltb 0 m) (AtReady l)
-    in-ready n m most accepted (Ccs v) l h = stays-out UntilCmp n m (Ready accepted maximum) (AtReady l)
-    in-ready n m most accepted (Cst v) l h = absurd (false≢true h)
-    in-ready n m most accepted Cem l h = absurd (false≢true h)
+    in-ready n m maximum accepted (Crm true) l h = absurd (false≢true (not-both (ltb firstEcp n) (lt-ltb firstEcp n l) h))
+    in-ready n m maximum accepted (Crm false) l h = crm-stays UntilCmp n m maximum accepted (accepted && ltb 0 m) (AtReady l)
+    in-ready n m maximum accepted (Ccs v) l h = stays-out UntilCmp n m (Ready accepted maximum) (AtReady l)
+    in-ready n m maximum accepted (Cst v) l h = absurd (false≢true h)
+    in-ready n m maximum accepted Cem l h = absurd (false≢true h)
 
     abbrev lastReady : State
     lastReady = Ready true (stationMaximum o)
@@ -183,7 +184,7 @@ module _ (x : Settings) (a : ℕ) (o : Offer) where
     at-word k n m st w AtOffered h = in-offered n w h
     at-word k n m st w AtUnverified h = in-unverified n w h
     at-word k n m st w AtParameters h = in-parameters n w h
-    at-word k n m st w (AtReady {most = most} {accepted = accepted} l) h = in-ready n m most accepted w l h
+    at-word k n m st w (AtReady {maximum = maximum} {accepted = accepted} l) h = in-ready n m maximum accepted w l h
     at-word k n m st w AtLast h = in-last n w h
 
   -- ---- CIM: taken in Offered, refused elsewhere, and the session stands where it stood

@@ -4,6 +4,8 @@ use Prim.Native.Nat.{ℕ, _/_}
 use mathlib.Core.Path.{_≡_, refl, subst}
 use mathlib.Core.Bool.{Bool, true, false, cond, _&&_, _||_}
 use lib.Dec.{leb, ltb}
+use Rattle.units.specs.declared.TenthAmps.{TenthAmps}
+use Rattle.units.specs.Units.{halvedAmps}
 use Rattle.settings.specs.declared.Settings.{Settings}
 use Rattle.readings.specs.declared.Readings.{Readings}
 use Rattle.readings.specs.Readings.{wantedOf}
@@ -13,12 +15,12 @@ use Rattle.session_states.specs.declared.phases.Phase.the-variants.{Drive, Rest
 use Rattle.session_states.specs.declared.phases.Cause.the-variants.{PackVoltage, HoldCell, Other}
 use Rattle.session_states.specs.declared.phases.PhaseAfter.{PhaseAfter}
 use Rattle.session_states.specs.declared.phases.PhaseAfter.the-variants as phase
-use Rattle.session_states.specs.Phases.{driveRules, holdRules, afterRest, phaseAfter}
+use Rattle.session_states.specs.Phases.{tooSmall, driveRules, holdRules, afterRest, phaseAfter}
 use Rattle.session_states.specs.declared.states.State.{State}
 use Rattle.session_states.specs.declared.states.State.the-variants.{Idle, Offered, Unverified, Parameters, Ready, Charging, Stopping, Error}
 use Rattle.session_by_tick.specs.declared.Turn.{Turn}
 use Rattle.session_by_tick.specs.declared.Turn.the-variants.{On, Enter, Farewell, End}
-use Rattle.session_by_tick.specs.Turns.{cellFull, packFull, stopOf, waitingOf, phaseOn, phaseTurn, stopsOf, chargingOf, stoppingOf, errorOf, turnOf}
+use Rattle.session_by_tick.specs.Turns.{cellFull, packFull, currentAbove, stopOf, waitingOf, phaseOn, phaseTurn, stopsOf, chargingOf, stoppingOf, errorOf, turnOf}
 use Rattle.session.specs.declared.Session.{Session}
 use Rattle.session.specs.Tick.{turnedBy, turnIn}
 use Rattle.session_paper_counts.specs.Literal.{grown, counted, literalIn, literalAdvance, literalTick}
@@ -50,7 +52,7 @@ hold-why true full d = refl
 hold-why false true d = refl
 hold-why false false d = refl
 
-rest-why : (over small done full : Bool) (request cycle : ℕ) (d : Phase)
+rest-why : (over small done full : Bool) (request : TenthAmps) (cycle : ℕ) (d : Phase)
     → turnedWhy (cond over (cond small (holdRules 0 full) (cond done (holdRules 0 full) (driveRules request cycle 0 full))) (phase.On d))
     ≡ phaseWhy false ((over && (small || done)) && full)
 unfolding turnedWhy holdRules driveRules
@@ -65,7 +67,7 @@ rest-why true false false false request cycle d = refl
 phase-why : (p : Phase) (full : Bool) → turnedWhy (phaseAfter p full) ≡ phaseWhy (timeUp p) (inHold p && full)
 unfolding phaseAfter driveRules holdRules afterRest timeUp inHold
 phase-why (Drive request cycle time) full = drive-why (leb driveLimit time) full _ _
-phase-why (Rest request cycle time) full = rest-why (leb restLimit time) (ltb (request / 2) leastRequest) (leb mostDrives cycle) full _ _ _
+phase-why (Rest request cycle time) full = rest-why (leb restLimit time) (tooSmall (halvedAmps request)) (leb mostDrives cycle) full _ _ _
 phase-why (Hold time) full = hold-why (leb holdLimit time) full _
 
 -- ---- what a tick comes to

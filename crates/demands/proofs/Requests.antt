@@ -10,6 +10,8 @@ use lib.Dec.{leb, ltb}
 use lib.IntN.{ℤ}
 use borrow.Author.Tests.{leb-false}
 use Rattle.messages.specs.Identifier.{partsOf}
+use Rattle.units.specs.declared.TenthAmps.{TenthAmps}
+use Rattle.units.specs.Units.{lesserAmps, halvedAmps}
 use Rattle.settings.specs.declared.Settings.{Settings}
 use Rattle.settings.specs.declared.SettingsRead.{SettingsRead}
 use Rattle.settings.specs.declared.SettingsRead.the-variants as read
@@ -22,7 +24,7 @@ use Rattle.session_states.specs.declared.phases.Phase.{Phase}
 use Rattle.session_states.specs.declared.phases.Phase.the-variants.{Drive, Rest, Hold}
 use Rattle.session_states.specs.declared.phases.PhaseAfter.{PhaseAfter}
 use Rattle.session_states.specs.declared.phases.PhaseAfter.the-variants as phase
-use Rattle.session_states.specs.Phases.{lesserOf, startPhase, driveRules, holdRules, afterRest, phaseAfter}
+use Rattle.session_states.specs.Phases.{tooSmall, startPhase, driveRules, holdRules, afterRest, phaseAfter}
 use Rattle.session_states.specs.declared.states.State.{State}
 use Rattle.session_states.specs.declared.states.State.the-variants.{Idle, Offered, Unverified, Parameters, Ready, Charging, Stopping, Error}
 use Rattle.session_by_message.specs.declared.Outcome.{Outcome}
@@ -30,7 +32,7 @@ use Rattle.session_by_message.specs.declared.Outcome.the-variants as outcome
 use Rattle.session_by_message.specs.Message.{outcomeOf}
 use Rattle.session_by_tick.specs.declared.Turn.{Turn}
 use Rattle.session_by_tick.specs.declared.Turn.the-variants as turn
-use Rattle.session_by_tick.specs.Turns.{cellFull, packFull, stopOf, waitingOf, phaseOn, phaseTurn, stopsOf, chargingOf, stoppingOf, errorOf, turnOf}
+use Rattle.session_by_tick.specs.Turns.{cellFull, packFull, currentAbove, stopOf, waitingOf, phaseOn, phaseTurn, stopsOf, chargingOf, stoppingOf, errorOf, turnOf}
 use Rattle.session.specs.declared.Session.{Session}
 use Rattle.session.specs.Message.{sessionAfter, appliedOf, messageOf}
 use Rattle.session.specs.Tick.{turnedBy, turnIn}
@@ -56,17 +58,19 @@ hold-asks : (maximum : ℕ) → requestOf (Hold 0) ≤ maximum
 unfolding requestOf
 hold-asks maximum = omega arith
 
-drive-is : (request : ℕ) → requestOf (Drive request 1 0) ≡ request
+drive-is : (request : TenthAmps) → requestOf (Drive request 1 0) ≡ request .0
 unfolding requestOf
 drive-is request = refl
 
-start-asks : (maximum station : ℕ) → requestOf (startPhase maximum station) ≤ maximum
+start-asks : (maximum station : TenthAmps) → requestOf (startPhase maximum station) ≤ maximum .0
 unfolding startPhase
-start-asks maximum station = either (ltb (lesserOf maximum station) leastRequest)
+start-asks maximum station = either (tooSmall (lesserAmps maximum station))
   where
-    either : (t : Bool) → requestOf (cond t (Hold 0) (Drive (lesserOf maximum station) 1 0)) ≤ maximum
-    either true = hold-asks maximum
-    either false = rw (drive-is (lesserOf maximum station)) (lesser-least maximum station (leb maximum station) refl)
+    either : (t : Bool) → requestOf (cond t (Hold 0) (Drive (lesserAmps maximum station) 1 0)) ≤ maximum .0
+    either true = hold-asks (maximum .0)
+    either false =
+        rw (drive-is (lesserAmps maximum station))
+        (lesser-least (maximum .0) (station .0) (leb (maximum .0) (station .0)) refl)
 
 -- ---- a message
 module _ (x : Settings) (n : ℕ) where
@@ -92,7 +96,7 @@ module _ (x : Settings) (n : ℕ) where
   outcome-asks st o ToParametersLater = omega arith
   outcome-asks st o (ToReady g) = omega arith
   outcome-asks st o ToReadyAgain = omega arith
-  outcome-asks st o (ToCharging {most = most} g) = start-asks (x .limits .current) most
+  outcome-asks st o (ToCharging {maximum = maximum} g) = start-asks (x .limits .current) maximum
   outcome-asks st o (ToStopping f) = omega arith
   outcome-asks st o MarksIt = omega arith
   outcome-asks st o EndsIt = omega arith
@@ -109,35 +113,36 @@ module _ (x : Settings) (n : ℕ) where
   after-asks source s outcome.End h k = omega arith
 
 -- ---- a tick
-unfoldable turnedAsks : PhaseAfter → ℕ
-turnedAsks (phase.On p) = requestOf p
-turnedAsks (phase.Stop cause) = 0
+unfoldable phaseAsks : PhaseAfter → ℕ
+phaseAsks (phase.On p) = requestOf p
+phaseAsks (phase.Stop cause) = 0
 
-lower : (m : ℕ) (t : Bool) (a b : PhaseAfter) → turnedAsks a ≤ m → turnedAsks b ≤ m → turnedAsks (cond t a b) ≤ m
+lower : (m : ℕ) (t : Bool) (a b : PhaseAfter) → phaseAsks a ≤ m → phaseAsks b ≤ m → phaseAsks (cond t a b) ≤ m
 lower m true a b h k = h
 lower m false a b h k = k
 
-drive-asks : (m request cycle time : ℕ) (full : Bool) → request ≤ m → turnedAsks (driveRules request cycle time full) ≤ m
-unfolding turnedAsks driveRules requestOf
+drive-asks : (m : ℕ) (request : TenthAmps) (cycle time : ℕ) (full : Bool) → request .0 ≤ m → phaseAsks (driveRules request cycle time full) ≤ m
+unfolding phaseAsks driveRules requestOf
 drive-asks m request cycle time full h = lower m (leb driveLimit time) _ _ (omega arith) (lower m full _ _ h h)
 
-hold-rules-ask : (m time : ℕ) (full : Bool) → turnedAsks (holdRules time full) ≤ m
-unfolding turnedAsks holdRules requestOf
+hold-rules-ask : (m time : ℕ) (full : Bool) → phaseAsks (holdRules time full) ≤ m
+unfolding phaseAsks holdRules requestOf
 hold-rules-ask m time full = lower m (leb holdLimit time) _ _ (omega arith) (lower m full _ _ (omega arith) (omega arith))
 
-rest-asks : (request cycle time : ℕ) → turnedAsks (phase.On (Rest request cycle time)) ≤ request
-unfolding turnedAsks requestOf
+rest-asks : (request : TenthAmps) (cycle time : ℕ) → phaseAsks (phase.On (Rest request cycle time)) ≤ request .0
+unfolding phaseAsks requestOf
 rest-asks request cycle time = omega arith
 
-turned-asks : (p : Phase) (full : Bool) → turnedAsks (phaseAfter p full) ≤ requestOf p
+phase-after-asks : (p : Phase) (full : Bool) → phaseAsks (phaseAfter p full) ≤ requestOf p
 unfolding phaseAfter afterRest requestOf
-turned-asks (Drive request cycle time) full = drive-asks request request cycle time full (omega arith)
-turned-asks (Rest request cycle time) full =
-    lower request (leb restLimit time) _ _
-    (lower request (ltb (request / 2) leastRequest) _ _ (hold-rules-ask request 0 full)
-    (lower request (leb mostDrives cycle) _ _ (hold-rules-ask request 0 full) (drive-asks request (request / 2) _ 0 full (omega arith))))
+phase-after-asks (Drive request cycle time) full = drive-asks (request .0) request cycle time full (omega arith)
+phase-after-asks (Rest request cycle time) full =
+    let m = request .0 in
+    lower m (leb restLimit time) _ _
+    (lower m (tooSmall (halvedAmps request)) _ _ (hold-rules-ask m 0 full)
+    (lower m (leb mostDrives cycle) _ _ (hold-rules-ask m 0 full) (drive-asks m (halvedAmps request) _ 0 full (omega arith))))
     (rest-asks request cycle time)
-turned-asks (Hold time) full = hold-rules-ask 0 time full
+phase-after-asks (Hold time) full = hold-rules-ask 0 time full
 
 -- the state that a turn leads to asks no more than the one before
 unfoldable turnAsks : Turn → ℕ
@@ -151,8 +156,8 @@ fewer m true a b h k = h
 fewer m false a b h k = k
 
 module _ (x : Settings) (r : Readings) (c : Cells) where
-  phase-asks : (m : ℕ) (t : PhaseAfter) → turnedAsks t ≤ m → turnAsks (phaseOn x r c t) ≤ m
-  unfolding turnedAsks turnAsks phaseOn stopOf requestIn
+  phase-asks : (m : ℕ) (t : PhaseAfter) → phaseAsks t ≤ m → turnAsks (phaseOn x r c t) ≤ m
+  unfolding phaseAsks turnAsks phaseOn stopOf requestIn
   phase-asks m (phase.On p) h = h
   phase-asks m (phase.Stop cause) h = omega arith
 
@@ -166,13 +171,13 @@ module _ (x : Settings) (r : Readings) (c : Cells) where
   turn-asks n silence Offered = wait-asks 0 silence Offered (omega arith)
   turn-asks n silence Unverified = wait-asks 0 silence Unverified (omega arith)
   turn-asks n silence Parameters = wait-asks 0 silence Parameters (omega arith)
-  turn-asks n silence (Ready y most) = wait-asks 0 silence (Ready y most) (omega arith)
+  turn-asks n silence (Ready y maximum) = wait-asks 0 silence (Ready y maximum) (omega arith)
   turn-asks n silence (Charging p) =
       let m = requestOf p in
       fewer m (leb silenceLimit silence) _ _ (omega arith)
       (fewer m (wantedOf r) _ _
       (fewer m (currentAbove x r) _ _ (omega arith)
-      (fewer m (packFull x r) _ _ (omega arith) (phase-asks m (phaseAfter p (cellFull x c)) (turned-asks p (cellFull x c)))))
+      (fewer m (packFull x r) _ _ (omega arith) (phase-asks m (phaseAfter p (cellFull x c)) (phase-after-asks p (cellFull x c)))))
       (omega arith))
   turn-asks n silence (Stopping k e) = fewer 0 (leb closingLimit n) _ _ (omega arith) (omega arith)
   turn-asks n silence Error = fewer 0 (leb closingLimit n) _ _ (omega arith) (omega arith)
@@ -196,7 +201,7 @@ module _ (x : Settings) (r : Readings) (c : Cells) where
   counts-ask s Offered h = refl
   counts-ask s Unverified h = refl
   counts-ask s Parameters h = refl
-  counts-ask s (Ready y most) h = refl
+  counts-ask s (Ready y maximum) h = refl
   counts-ask s (Charging p) h = older-asks p
   counts-ask s (Stopping k e) h = refl
   counts-ask s Error h = refl
@@ -211,13 +216,13 @@ module _ (x : Settings) (r : Readings) (c : Cells) where
 
 -- ---- any event, any run
 abbrev Within : Controller → Type 0
-Within c = requestIn (c .session .state) ≤ c .settings .current
+Within c = requestIn (c .session .state) ≤ c .settings .limits .current .0
 
 frame-within : (c : Controller) (id : ℕ) (s : List ℕ) (a : Answer) → Comes c id s a → Within c → Within (a .controller)
 unfolding sessionMoved messageOf appliedOf
 frame-within c id s a (Left k e n) h =
     subst (λ (z : Settings). requestIn (a .controller .session .state) ≤ z .current) (sym k)
-    (subst (λ (z : Session). requestIn (z .state) ≤ c .settings .current) (sym e) h)
+    (subst (λ (z : Session). requestIn (z .state) ≤ c .settings .limits .current .0) (sym e) h)
 frame-within c id s a (Took m says may e) h =
     subst (λ (z : Answer). Within (z .controller)) (sym e)
     (after-asks (c .settings) (c .session .count) (partsOf id .source) (c .session) (outcomeOf (c .settings) (c .session .state) (c .session .count) m) h
@@ -251,5 +256,5 @@ fresh-within x = omega arith
 
 -- over any run from a fresh controller
 pub never-above-the-maximum : (x : Settings) (es : List Event)
-    → requestIn (afterAll (freshOf x) es .session .state) ≤ afterAll (freshOf x) es .settings .current
+    → requestIn (afterAll (freshOf x) es .session .state) ≤ afterAll (freshOf x) es .settings .limits .current .0
 never-above-the-maximum x es = run-within (freshOf x) es (fresh-within x)

@@ -6,6 +6,7 @@ use mathlib.Core.Path.{_≡_, refl, ap, sym, subst, _∙_}
 use mathlib.Core.Bool.{Bool, true, false, _&&_, false≢true}
 use mathlib.Core.List.{List}
 use lib.Dec.{ltb}
+use Rattle.units.specs.declared.TenthAmps.{TenthAmps}
 use Rattle.settings.specs.declared.Settings.{Settings}
 use Rattle.charge_messages.specs.declared.ChargeMessage.{ChargeMessage}
 use Rattle.charge_messages.specs.declared.ChargeMessage.the-variants.{Cim, Cvm, Cmp, Crm, Ccs, Cst, Cem}
@@ -71,7 +72,7 @@ module _ (x : Settings) (source : ℕ) (s : Session) (n : ℕ) where
   fits-parameters (Cst b) = refl
   fits-parameters Cem = refl
 
-  fits-ready : (y : Bool) (k : ℕ) (m : ChargeMessage) → Fits (feeds (Ready y k) m) (inReady x y k n m)
+  fits-ready : (y : Bool) (k : TenthAmps) (m : ChargeMessage) → Fits (feeds (Ready y k) m) (inReady x y k n m)
   unfolding Fits silenceAfter sessionAfter inReady readyOf crmInReady feeds
   fits-ready y k Cim = refl
   fits-ready y k (Cvm b) = refl

@@ -16,7 +16,7 @@ use Rattle.messages.specs.declared.received.Message.the-variants as message
 use Rattle.messages.specs.declared.received.Recognized.{Recognized}
 use Rattle.messages.specs.declared.received.Recognized.the-variants as recognized
 use Rattle.messages.specs.Identifier.{partsOf}
-use Rattle.messages.specs.Received.{rowOf, recognizedOf}
+use Rattle.messages.specs.Received.{leastLength, recognizedOf}
 use Rattle.settings.specs.declared.Settings.{Settings}
 use Rattle.charge_messages.specs.declared.Content.{Content}
 use Rattle.charge_messages.specs.declared.Content.the-variants as content
@@ -31,7 +31,13 @@ use Rattle.controller.specs.declared.Answer.{Answer}
 use Rattle.controller.specs.Frame.{refused, mayCharge, kindOf, frameTo}
 use Rattle.refusals.specs.Frame.{longEnough, messageIn}
 use Rattle.demands.specs.Events.{chargeIn, queryIn, isCharge, isQuery}
-use Rattle.controller.specs.Frame.{sessionMoved, contentTaken, chargeTo, queriesMoved, queryTo, messageTo, frame-view}
+use Rattle.controller.specs.Frame.{sessionMoved, contentTaken, chargeTo, queriesMoved, queryTo, messageTo}
+
+-- ---- the answer to a frame: what the checks 3 to 8 make of it, then the message's own part
+frame-view : (c : Controller) (id : ℕ) (s : List ℕ)
+    → frameTo c id s ≡ messageTo c (partsOf id .source) s (messageIn (c .settings .own) id s)
+unfolding frameTo
+frame-view c id s = refl
 
 -- ---- a charge message, by settings and session alone: refused by 9 or 10, else taken or refused by 11
 unfoldable pub contentOn : Settings → ℕ → Session → Content → Taken

@@ -5,7 +5,7 @@ use mathlib.Core.Path.{_≡_, refl}
 use Rattle.settings.specs.declared.Settings.{Settings}
 use Rattle.cells.specs.declared.Cells.{Cells}
 use Rattle.session_states.specs.declared.phases.Phase.the-variants.{Drive}
-use Rattle.session_frames.specs.Layouts.{rawRequest, ecrFrame, ecrOf}
+use Rattle.session_frames.specs.Layouts.{ecrFrame, ecrOf}
 use Rattle.session_frames.proofs.WorkedRows as layouts
 use Rattle.broadcasts.proofs.WorkedRows as broadcasts
 use Rattle.readings.proofs.WorkedRows as readings
@@ -13,19 +13,19 @@ use Rattle.session_by_message.proofs.WorkedRows as outcomes
 use Rattle.session_states.proofs.WorkedRows as phases
 use Rattle.cells.proofs.WorkedRows as cells
 use Rattle.queries.proofs.WorkedRows as queries
-use Rattle.demands.specs.WorkedRows.{WorkedRows}
+use Rattle.demands.specs.WorkedRows.{tenths, WorkedRows}
 
 module _ (x : Settings) (station cycle time : ℕ) (c : Cells) where
-  asks-400 : ecrOf x station c (Drive 400 cycle time) ≡ ecrFrame x station 0 3600 0x02
-  unfolding ecrOf rawRequest
+  asks-400 : ecrOf x station c (Drive (tenths 400) cycle time) ≡ ecrFrame x station 0 3600 0x02
+  unfolding ecrOf
   asks-400 = refl
 
-  asks-200 : ecrOf x station c (Drive 200 cycle time) ≡ ecrFrame x station 0 3800 0x02
-  unfolding ecrOf rawRequest
+  asks-200 : ecrOf x station c (Drive (tenths 200) cycle time) ≡ ecrFrame x station 0 3800 0x02
+  unfolding ecrOf
   asks-200 = refl
 
-  asks-100 : ecrOf x station c (Drive 100 cycle time) ≡ ecrFrame x station 0 3900 0x02
-  unfolding ecrOf rawRequest
+  asks-100 : ecrOf x station c (Drive (tenths 100) cycle time) ≡ ecrFrame x station 0 3900 0x02
+  unfolding ecrOf
   asks-100 = refl
 
 pub worked-rows : WorkedRows

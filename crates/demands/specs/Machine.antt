@@ -9,7 +9,7 @@ use mathlib.Core.List.{List, [], _∷_, _++_}
 use lib.IntN.{ℤ}
 use lib.ListN.{length, drop}
 use Rattle.frames.specs.declared.Frame.{Frame}
-use Rattle.frames.specs.Frame.{recordsOf}
+use Rattle.frames.specs.Frame.{recordSize, recordsOf}
 use Rattle.readings.specs.declared.Readings.{Readings}
 use Rattle.cells.specs.Summaries.{cellsOf}
 use Rattle.settings.specs.Read.{recordNumber}

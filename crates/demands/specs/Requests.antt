@@ -8,8 +8,8 @@ use Rattle.session_states.specs.declared.states.State.the-variants.{Idle, Offer
 
 -- R, as Drive asks it and as Rest keeps it to be halved; Hold asks for a voltage
 unfoldable pub requestOf : Phase → ℕ
-requestOf (Drive request cycle time) = request
-requestOf (Rest request cycle time) = request
+requestOf (Drive request cycle time) = request .0
+requestOf (Rest request cycle time) = request .0
 requestOf (Hold time) = 0
 
 unfoldable pub requestIn : State → ℕ

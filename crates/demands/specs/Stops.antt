@@ -5,6 +5,7 @@ use Prim.Native.Nat.{ℕ, _/_}
 use mathlib.Core.Path.{_≡_}
 use mathlib.Core.Bool.{Bool, true, false, cond, _&&_, _||_}
 use lib.Dec.{leb, ltb}
+use Rattle.units.specs.Units.{halvedAmps}
 use Rattle.settings.specs.declared.Settings.{Settings}
 use Rattle.readings.specs.declared.Readings.{Readings}
 use Rattle.readings.specs.Readings.{wantedOf}
@@ -15,10 +16,10 @@ use Rattle.session_states.specs.declared.phases.Cause.{Cause}
 use Rattle.session_states.specs.declared.phases.Cause.the-variants.{PackVoltage, HoldCell, Other}
 use Rattle.session_states.specs.declared.phases.PhaseAfter.{PhaseAfter}
 use Rattle.session_states.specs.declared.phases.PhaseAfter.the-variants as phase
-use Rattle.session_states.specs.Phases.{phaseAfter}
+use Rattle.session_states.specs.Phases.{tooSmall, phaseAfter}
 use Rattle.session_states.specs.declared.states.State.{State}
 use Rattle.session_states.specs.declared.states.State.the-variants.{Idle, Offered, Unverified, Parameters, Ready, Charging, Stopping, Error}
-use Rattle.session_by_tick.specs.Turns.{cellFull, packFull, estOf, estThen}
+use Rattle.session_by_tick.specs.Turns.{cellFull, packFull, currentAbove, estOf, estThen}
 use Rattle.session.specs.declared.Session.{Session}
 use Rattle.session_paper_counts.specs.Literal.{older}
 use Rattle.session_states.specs.Limits.{silenceLimit, closingLimit, driveLimit, restLimit, holdLimit, leastRequest, mostDrives}
@@ -50,7 +51,7 @@ timeUp (Hold time) = leb holdLimit time
 -- six Drives done
 unfoldable pub inHold : Phase → Bool
 inHold (Drive request cycle time) = false
-inHold (Rest request cycle time) = leb restLimit time && (ltb (request / 2) leastRequest || leb mostDrives cycle)
+inHold (Rest request cycle time) = leb restLimit time && (tooSmall (halvedAmps request) || leb mostDrives cycle)
 inHold (Hold time) = true
 
 module _ (x : Settings) (r : Readings) (c : Cells) where

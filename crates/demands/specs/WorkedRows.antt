@@ -6,23 +6,34 @@ use mathlib.Core.Bool.{Bool, true, false}
 use mathlib.Core.List.{List, [], _∷_}
 use lib.IntN.{ℤ, pos, negsuc}
 use lib.ListN.{length, replicate}
-use Rattle.messages.specs.Table.{toTarget}
+use Rattle.units.specs.declared.TenthAmps.{TenthAmps}
+use Rattle.units.specs.declared.RawAmps.{RawAmps}
+use Rattle.units.specs.Units.{rawAmps}
+use Rattle.messages.specs.Table.{pfOf, toTarget}
 use Rattle.frames.specs.Frame.{frameOf}
 use Rattle.settings.specs.declared.Settings.{Settings}
 use Rattle.readings.specs.declared.Readings.{Readings}
 use Rattle.readings.specs.Readings.{rawOf}
 use Rattle.cells.specs.declared.Cells.{Cells}
+use Rattle.cells.specs.Figures.{cellCount}
 use Rattle.cells.specs.Summaries.{summaryOf, averageOf}
 use Rattle.session_states.specs.declared.phases.Phase.the-variants.{Drive, Rest, Hold}
 use Rattle.session_states.specs.declared.phases.PhaseAfter.the-variants.{On}
 use Rattle.session_states.specs.Phases.{startPhase, phaseAfter}
-use Rattle.session_by_message.specs.Offer.{tenthsOf}
-use Rattle.session_frames.specs.Layouts.{holdVoltage, rawRequest, ecrFrame, ecrOf, eimOf, eemOf}
+use Rattle.session_by_message.specs.Offer.{offeredTenths}
+use Rattle.session_frames.specs.Layouts.{holdVoltage, ecrFrame, ecrOf, eimOf, eemOf}
 use Rattle.broadcasts.specs.Layouts.{psOf}
 use Rattle.queries.specs.declared.Kind.the-variants.{Voltages, Temperatures}
 use Rattle.queries.specs.declared.Query.{Query}
 use Rattle.queries.specs.Answering.{rowOf, groupFrame, pastEnd, atLast}
 use Rattle.session_states.specs.Limits.{restLimit}
+
+-- so many tenths of an ampere, and a current word of a CMP
+abbrev pub tenths : ℕ → TenthAmps
+tenths n = record { 0 = n }
+
+abbrev pub word : ℕ → RawAmps
+word n = record { 0 = n }
 
 -- a query that waits at a group, counted from 0
 abbrev pub voltagesAt : ℕ → ℕ → Query
@@ -43,32 +54,32 @@ pub record WorkedRows : Type 0 where
   pub raw-200 : rawOf (pos 2000) ≡ 2000
   pub raw-1-2 : rawOf (pos 12) ≡ 3988
   pub raw-minus-50 : rawOf (negsuc 499) ≡ 4500
-  pub requested-200 : rawRequest 2000 ≡ 2000
-  pub requested-1-2 : rawRequest 12 ≡ 3988
-  pub offered-200 : tenthsOf 2000 ≡ pos 2000
-  pub offered-1-2 : tenthsOf 3988 ≡ pos 12
-  pub offered-minus-50 : tenthsOf 4500 ≡ negsuc 499
+  pub requested-200 : rawAmps (tenths 2000) .0 ≡ 2000
+  pub requested-1-2 : rawAmps (tenths 12) .0 ≡ 3988
+  pub offered-200 : offeredTenths (word 2000) ≡ pos 2000
+  pub offered-1-2 : offeredTenths (word 3988) ≡ pos 12
+  pub offered-minus-50 : offeredTenths (word 4500) ≡ negsuc 499
   -- maximum pack voltage 65535: 48 cells hold at 1704; 3 at 106
-  pub hold-48 : (x : Settings) (c : Cells) → x .limits .pack .0 ≡ 65535 → c .volts .count ≡ 48 → holdVoltage x c ≡ 1704
-  pub hold-3 : (x : Settings) (c : Cells) → x .limits .pack .0 ≡ 65535 → c .volts .count ≡ 3 → holdVoltage x c ≡ 106
+  pub hold-48 : (x : Settings) (c : Cells) → x .limits .pack .0 ≡ 65535 → cellCount (c .volts) ≡ 48 → holdVoltage x c .0 ≡ 1704
+  pub hold-3 : (x : Settings) (c : Cells) → x .limits .pack .0 ≡ 65535 → cellCount (c .volts) ≡ 3 → holdVoltage x c .0 ≡ 106
   -- 400 is asked 400, 200, 100, then Hold: each Drive goes to Rest at a full cell, each Rest of 6000 ticks to what
   -- follows
-  pub asked-400 : startPhase 400 400 ≡ Drive 400 1 0
-  pub rest-400 : phaseAfter (Drive 400 1 0) true ≡ On (Rest 400 1 0)
-  pub asked-200 : phaseAfter (Rest 400 1 restLimit) false ≡ On (Drive 200 2 0)
-  pub rest-200 : phaseAfter (Drive 200 2 0) true ≡ On (Rest 200 2 0)
-  pub asked-100 : phaseAfter (Rest 200 2 restLimit) false ≡ On (Drive 100 3 0)
-  pub rest-100 : phaseAfter (Drive 100 3 0) true ≡ On (Rest 100 3 0)
-  pub then-hold : phaseAfter (Rest 100 3 restLimit) false ≡ On (Hold 0)
+  pub asked-400 : startPhase (tenths 400) (tenths 400) ≡ Drive (tenths 400) 1 0
+  pub rest-400 : phaseAfter (Drive (tenths 400) 1 0) true ≡ On (Rest (tenths 400) 1 0)
+  pub asked-200 : phaseAfter (Rest (tenths 400) 1 restLimit) false ≡ On (Drive (tenths 200) 2 0)
+  pub rest-200 : phaseAfter (Drive (tenths 200) 2 0) true ≡ On (Rest (tenths 200) 2 0)
+  pub asked-100 : phaseAfter (Rest (tenths 200) 2 restLimit) false ≡ On (Drive (tenths 100) 3 0)
+  pub rest-100 : phaseAfter (Drive (tenths 100) 3 0) true ≡ On (Rest (tenths 100) 3 0)
+  pub then-hold : phaseAfter (Rest (tenths 100) 3 restLimit) false ≡ On (Hold 0)
   -- which ECR says in mode 02 with voltage 0, as 4000 minus each
-  pub ecr-400 : (x : Settings) (station cycle time : ℕ) (c : Cells) → ecrOf x station c (Drive 400 cycle time) ≡ ecrFrame x station 0 3600 0x02
-  pub ecr-200 : (x : Settings) (station cycle time : ℕ) (c : Cells) → ecrOf x station c (Drive 200 cycle time) ≡ ecrFrame x station 0 3800 0x02
-  pub ecr-100 : (x : Settings) (station cycle time : ℕ) (c : Cells) → ecrOf x station c (Drive 100 cycle time) ≡ ecrFrame x station 0 3900 0x02
+  pub ecr-400 : (x : Settings) (station cycle time : ℕ) (c : Cells) → ecrOf x station c (Drive (tenths 400) cycle time) ≡ ecrFrame x station 0 3600 0x02
+  pub ecr-200 : (x : Settings) (station cycle time : ℕ) (c : Cells) → ecrOf x station c (Drive (tenths 200) cycle time) ≡ ecrFrame x station 0 3800 0x02
+  pub ecr-100 : (x : Settings) (station cycle time : ℕ) (c : Cells) → ecrOf x station c (Drive (tenths 100) cycle time) ≡ ecrFrame x station 0 3900 0x02
   -- R 60 drives, 59 holds: at the start and after a Rest
-  pub drives-60 : startPhase 400 60 ≡ Drive 60 1 0
-  pub holds-59 : startPhase 400 59 ≡ Hold 0
-  pub drives-60-again : phaseAfter (Rest 120 1 restLimit) false ≡ On (Drive 60 2 0)
-  pub holds-59-then : phaseAfter (Rest 119 1 restLimit) false ≡ On (Hold 0)
+  pub drives-60 : startPhase (tenths 400) (tenths 60) ≡ Drive (tenths 60) 1 0
+  pub holds-59 : startPhase (tenths 400) (tenths 59) ≡ Hold 0
+  pub drives-60-again : phaseAfter (Rest (tenths 120) 1 restLimit) false ≡ On (Drive (tenths 60) 2 0)
+  pub holds-59-then : phaseAfter (Rest (tenths 119) 1 restLimit) false ≡ On (Hold 0)
   -- voltages 330, 331 average 330
   pub average : averageOf (summaryOf (330 ∷ 331 ∷ [])) ≡ 330
   -- equal cells give index 1, however many they are
@@ -80,10 +91,10 @@ pub record WorkedRows : Type 0 where
       ≡ frameOf (toTarget 0x32 7) source own (0x00 ∷ 0x00 ∷ 0x00 ∷ 0x00 ∷ 0x4c ∷ 0x01 ∷ 0x4b ∷ 0x01 ∷ [])
   -- 255 cells end at PF 70 and A0: the group that is sent last has that PF, and there is one
   pub voltages-end : (v : List ℕ) (t : List ℤ) (source group : ℕ) → length v ≡ 255
-      → pastEnd v t (voltagesAt source group) ≡ false → atLast v t (voltagesAt source group) ≡ true → rowOf Voltages group .0 ≡ 0x70
+      → pastEnd v t (voltagesAt source group) ≡ false → atLast v t (voltagesAt source group) ≡ true → pfOf (rowOf Voltages group) ≡ 0x70
   pub voltages-sent : (v : List ℕ) (t : List ℤ) (source : ℕ) → length v ≡ 255
       → (pastEnd v t (voltagesAt source 63) ≡ false) × (atLast v t (voltagesAt source 63) ≡ true)
   pub temperatures-end : (v : List ℕ) (t : List ℤ) (source group : ℕ) → length t ≡ 255
-      → pastEnd v t (temperaturesAt source group) ≡ false → atLast v t (temperaturesAt source group) ≡ true → rowOf Temperatures group .0 ≡ 0xa0
+      → pastEnd v t (temperaturesAt source group) ≡ false → atLast v t (temperaturesAt source group) ≡ true → pfOf (rowOf Temperatures group) ≡ 0xa0
   pub temperatures-sent : (v : List ℕ) (t : List ℤ) (source : ℕ) → length t ≡ 255
       → (pastEnd v t (temperaturesAt source 31) ≡ false) × (atLast v t (temperaturesAt source 31) ≡ true)

@@ -7,9 +7,8 @@ use lib.ListN.{length}
 use Rattle.messages.specs.declared.identifier.Identifier.{Identifier}
 use Rattle.messages.specs.declared.received.Recognized.{Recognized}
 use Rattle.messages.specs.declared.received.Recognized.the-variants.{As, Refused}
-use Rattle.messages.specs.Table.{lengthOf}
-use Rattle.messages.specs.Identifier.{partsOf}
-use Rattle.messages.specs.Received.{rowOf, recognizedOf}
+use Rattle.messages.specs.Identifier.{firstBroadcast, partsOf}
+use Rattle.messages.specs.Received.{leastLength, recognizedOf}
 use Rattle.settings.specs.declared.Stations.{Stations}
 use Rattle.settings.specs.Range.{stationList, lacks}
 use Rattle.session_states.specs.declared.states.State.{State}
@@ -25,7 +24,7 @@ flagsSet p = eqb (p .reserved) 1 || eqb (p .page) 1
 
 -- 5: PF 240 up, or target not our address
 unfoldable pub notForUs : ℕ → Identifier → Bool
-notForUs own p = leb 240 (p .pf) || not (eqb (p .ps) own)
+notForUs own p = leb firstBroadcast (p .pf) || not (eqb (p .ps) own)
 
 -- 6: source is ours, 254 or 255
 unfoldable pub badSource : ℕ → Identifier → Bool
@@ -33,7 +32,7 @@ badSource own p = eqb (p .source) own || (eqb (p .source) 254 || eqb (p .source)
 
 -- 8: shorter than its least length; what 7 has refused stays refused
 unfoldable pub longEnough : List ℕ → Recognized → Recognized
-longEnough s (As m) = cond (ltb (length s) (lengthOf (rowOf m))) (Refused 8) (As m)
+longEnough s (As m) = cond (ltb (length s) (leastLength m)) (Refused 8) (As m)
 longEnough s (Refused n) = Refused n
 
 -- 3 to 8, in numeric order (7, "PF not one of the nine", is `recognizedOf`): the message in a frame, or the number of the first

@@ -1,6 +1,7 @@
 // The checks of a received frame (01, "Numbers returned"): 3 to 8, which ask for nothing but our own address, and 9.
 ghost use mathlib.Core.Path.{_≡_};
 ghost use Rattle.refusals.specs.Frame.{notCan, flagsSet, notForUs, badSource, longEnough, messageIn, listed, maySpeak};
+use messages::identifier;
 use messages::identifier::Identifier;
 use messages::received;
 use messages::received::Recognized;
@@ -25,7 +26,7 @@ fn flags_set(p: Identifier) -> bool
 fn not_for_us(own: u8, p: Identifier) -> bool
     ensures { λ r. ⌜ r ≡ notForUs own p ⌝ }
 {
-    (240 <= p.pf) | (p.ps != own)
+    (identifier::FIRST_BROADCAST <= p.pf) | (p.ps != own)
 }
 
 // 6: a source that no other node may have.
@@ -41,8 +42,8 @@ fn long_enough(bytes: &[u8], known: Recognized) -> Recognized
 {
     match known {
         Recognized::As(m) => {
-            let row = m.row();
-            if bytes.len() < row.length() as usize {
+            let least = m.least_length();
+            if bytes.len() < least as usize {
                 Recognized::Refused(8)
             } else {
                 Recognized::As(m)

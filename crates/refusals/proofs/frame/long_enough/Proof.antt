@@ -8,11 +8,8 @@ use Rattle.refusals.proofs.frame.long_enough.Tie as tie
 enum-known-known : tie.Need-enum-known-known
 enum-known-known c = search needs
 
-row-requires : tie.Need-row-requires
-row-requires c κs = search needs
-
-length-requires : tie.Need-length-requires
-length-requires c κs = search needs
+least-length-requires : tie.Need-least-length-requires
+least-length-requires c κs = search needs
 
 cast-if1 : tie.Need-cast-if1
 cast-if1 c = search needs
@@ -22,11 +19,11 @@ enum-known-known-2 c = search needs
 
 returns : tie.Need-returns
 unfolding longEnough
-returns c = rw (c .before .before .before .before .known .given .1, lt-ltb _ _ (rw (c .before .length .ensures, c .before .before .row .ensures) at (c .if1 .taken)))
+returns c = rw (c .before .before .before .known .given .1, lt-ltb _ _ (rw (c .before .least-length .ensures) at (c .if1 .taken)))
 
 returns-2 : tie.Need-returns-2
 unfolding longEnough
-returns-2 c = rw (c .before .before .before .before .known .given .1, le-ltb _ _ (rw (c .before .length .ensures, c .before .before .row .ensures) at (c .if1 .left)))
+returns-2 c = rw (c .before .before .before .known .given .1, le-ltb _ _ (rw (c .before .least-length .ensures) at (c .if1 .left)))
 
 returns-3 : tie.Need-returns-3
 unfolding longEnough
@@ -37,8 +34,7 @@ long-enough-spec =
     tie.close
     (tie.spec
     enum-known-known
-    row-requires
-    length-requires
+    least-length-requires
     cast-if1
     enum-known-known-2
     returns
