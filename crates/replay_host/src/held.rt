@@ -1,0 +1,117 @@
+// What is held from call to call; and a settings record, a frame or a write: called, and what it was answered and changed printed.
+use crate::calls;
+use controller::Controller;
+use controller::Start;
+use replay_print::Buffer;
+use replay_print::answers;
+use replay_print::out::Out;
+use replay_print::standings::Standing;
+use replay_text::hex::Bytes;
+
+// The controller in use, once a settings record was accepted.
+pub enum Held {
+    None,
+    Of(Controller),
+}
+
+// The controller in use, the ticks that it has accepted, and the free place of the output.
+pub struct Kept {
+    pub held: Held,
+    pub accepted: u64,
+    pub out: usize,
+}
+
+// The standing of a controller's session.
+pub fn standing(c: Controller) -> Standing {
+    let s = c.session;
+    let state = s.state;
+    Standing::of(state, s.station)
+}
+
+impl Held {
+    fn standing(self) -> Standing {
+        match self {
+            Held::None => Standing::idle(),
+            Held::Of(c) => standing(c),
+        }
+    }
+}
+
+impl Kept {
+    pub fn start() -> Kept {
+        Kept {
+            held: Held::None,
+            accepted: 0,
+            out: 0,
+        }
+    }
+
+    // The same, at another place of the output.
+    fn at(self, out: usize) -> Kept {
+        let mut k = self;
+        k.out = out;
+        k
+    }
+
+    // A line that cannot be read, by its number.
+    pub fn unreadable(self, number: u64, o: &mut Out) -> Kept {
+        self.at(answers::unreadable(o, self.out, number))
+    }
+
+    // That there is no controller, where there is none.
+    pub fn absent(self, o: &mut Out) -> Kept {
+        let held = self.held;
+        match held {
+            Held::None => self.at(answers::no_controller(o, self.out)),
+            Held::Of(_) => self,
+        }
+    }
+
+    // A settings record of the first n bytes: a fresh controller, or the one in use stays.
+    pub fn settings(self, bytes: &Bytes, n: usize, o: &mut Out) -> Kept {
+        let held = self.held;
+        match calls::read(bytes, n) {
+            Start::Made(c) => {
+                let now = standing(c);
+                let a = answers::settings(o, self.out, 0);
+                Kept {
+                    held: Held::Of(c),
+                    accepted: 0,
+                    out: now.changed(o, a, held.standing()),
+                }
+            }
+            Start::Refused(number) => self.at(answers::settings(o, self.out, number)),
+        }
+    }
+
+    // A frame whose data are the first n bytes.
+    pub fn frame(self, id: u32, bytes: &Bytes, n: usize, o: &mut Out) -> Kept {
+        let held = self.held;
+        match held {
+            Held::None => self.absent(o),
+            Held::Of(c) => {
+                let answer = calls::frame(c, id, bytes, n);
+                let next = answer.controller;
+                let now = standing(next);
+                let a = answers::frame(o, self.out, answer.number);
+                Kept {
+                    held: Held::Of(next),
+                    accepted: self.accepted,
+                    out: now.changed(o, a, standing(c)),
+                }
+            }
+        }
+    }
+
+    // The settings in use written into the first n bytes.
+    pub fn write(self, buf: &mut Buffer, n: usize, o: &mut Out) -> Kept {
+        let held = self.held;
+        match held {
+            Held::None => self.absent(o),
+            Held::Of(c) => {
+                let w = calls::write(c, buf, n);
+                self.at(answers::write(o, self.out, w.number, w.bytes, buf))
+            }
+        }
+    }
+}
