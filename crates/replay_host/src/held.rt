@@ -22,7 +22,7 @@ pub struct Kept {
 }
 
 // The standing of a controller's session.
-pub fn standing(c: Controller) -> Standing {
+fn standing(c: Controller) -> Standing {
     let s = c.session;
     let state = s.state;
     Standing::of(state, s.station)
@@ -53,32 +53,47 @@ impl Kept {
         k
     }
 
+    // The controller that a call gave, after so many accepted ticks. Its standing is printed last, where the call has changed it.
+    pub fn with(self, c: Controller, accepted: u64, o: &mut Out, at: usize) -> Kept {
+        let before = self.held;
+        let now = standing(c);
+        let out = now.changed(o, at, before.standing());
+        Kept {
+            held: Held::Of(c),
+            accepted: accepted,
+            out: out,
+        }
+    }
+
     // A line that cannot be read, by its number.
     pub fn unreadable(self, number: u64, o: &mut Out) -> Kept {
         self.at(answers::unreadable(o, self.out, number))
     }
 
-    // That there is no controller, where there is none.
-    pub fn absent(self, o: &mut Out) -> Kept {
+    // Whether there is no controller.
+    pub fn is_empty(self) -> bool {
         let held = self.held;
         match held {
-            Held::None => self.at(answers::no_controller(o, self.out)),
-            Held::Of(_) => self,
+            Held::None => true,
+            Held::Of(_) => false,
+        }
+    }
+
+    // That there is no controller, where there is none.
+    pub fn absent(self, o: &mut Out) -> Kept {
+        if self.is_empty() {
+            self.at(answers::no_controller(o, self.out))
+        } else {
+            self
         }
     }
 
     // A settings record of the first n bytes: a fresh controller, or the one in use stays.
     pub fn settings(self, bytes: &Bytes, n: usize, o: &mut Out) -> Kept {
-        let held = self.held;
         match calls::read(bytes, n) {
             Start::Made(c) => {
-                let now = standing(c);
                 let a = answers::settings(o, self.out, 0);
-                Kept {
-                    held: Held::Of(c),
-                    accepted: 0,
-                    out: now.changed(o, a, held.standing()),
-                }
+                self.with(c, 0, o, a)
             }
             Start::Refused(number) => self.at(answers::settings(o, self.out, number)),
         }
@@ -92,19 +107,14 @@ impl Kept {
             Held::Of(c) => {
                 let answer = calls::frame(c, id, bytes, n);
                 let next = answer.controller;
-                let now = standing(next);
                 let a = answers::frame(o, self.out, answer.number);
-                Kept {
-                    held: Held::Of(next),
-                    accepted: self.accepted,
-                    out: now.changed(o, a, standing(c)),
-                }
+                self.with(next, self.accepted, o, a)
             }
         }
     }
 
     // The settings in use written into the first n bytes.
-    pub fn write(self, buf: &mut Buffer, n: usize, o: &mut Out) -> Kept {
+    pub fn write(self, n: usize, buf: &mut Buffer, o: &mut Out) -> Kept {
         let held = self.held;
         match held {
             Held::None => self.absent(o),

@@ -60,7 +60,7 @@ impl Run {
                 }
                 Due::TooMany => k = k.unreadable(self.number, o),
             },
-            Asked::Write(n) => k = k.write(buf, n, o),
+            Asked::Write(n) => k = k.write(n, buf, o),
             Asked::Unreadable => k = k.unreadable(self.number, o),
             _ => {}
         }
