@@ -1,5 +1,6 @@
 // What is held from call to call; and a settings record, a frame or a write: called, and what it was answered and changed printed.
 use crate::calls;
+use controller::Answer;
 use controller::Controller;
 use controller::Start;
 use replay_print::Buffer;
@@ -7,6 +8,7 @@ use replay_print::answers;
 use replay_print::out::Out;
 use replay_print::standings::Standing;
 use replay_text::hex::Bytes;
+use settings::Written;
 
 // The controller in use, once a settings record was accepted.
 pub enum Held {
@@ -99,18 +101,25 @@ impl Kept {
         }
     }
 
+    // What a frame was answered.
+    fn answered(self, x: Answer, o: &mut Out) -> Kept {
+        let next = x.controller;
+        let a = answers::frame(o, self.out, x.number);
+        self.with(next, self.accepted, o, a)
+    }
+
     // A frame whose data are the first n bytes.
     pub fn frame(self, id: u32, bytes: &Bytes, n: usize, o: &mut Out) -> Kept {
         let held = self.held;
         match held {
             Held::None => self.absent(o),
-            Held::Of(c) => {
-                let answer = calls::frame(c, id, bytes, n);
-                let next = answer.controller;
-                let a = answers::frame(o, self.out, answer.number);
-                self.with(next, self.accepted, o, a)
-            }
+            Held::Of(c) => self.answered(calls::frame(c, id, bytes, n), o),
         }
+    }
+
+    // What a write was answered, and what it wrote.
+    fn written(self, x: Written, buf: &Buffer, o: &mut Out) -> Kept {
+        self.at(answers::write(o, self.out, x.number, x.bytes, buf))
     }
 
     // The settings in use written into the first n bytes.
@@ -118,10 +127,7 @@ impl Kept {
         let held = self.held;
         match held {
             Held::None => self.absent(o),
-            Held::Of(c) => {
-                let w = calls::write(c, buf, n);
-                self.at(answers::write(o, self.out, w.number, w.bytes, buf))
-            }
+            Held::Of(c) => self.written(calls::write(c, buf, n), buf, o),
         }
     }
 }

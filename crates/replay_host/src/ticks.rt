@@ -2,6 +2,7 @@
 use crate::calls;
 use crate::held::Held;
 use crate::held::Kept;
+use controller::Ticked;
 use replay_print::Buffer;
 use replay_print::answers;
 use replay_print::frames;
@@ -16,23 +17,26 @@ pub fn next(n: u64) -> u64 {
 }
 
 impl Kept {
-    // One tick, which only counts and sends frames where it is accepted; none where there is no controller.
+    // What a tick was answered and sent. Only one that is accepted counts.
+    fn ticked(self, x: Ticked, buf: &Buffer, o: &mut Out) -> Kept {
+        let later = x.controller;
+        let mut accepted = self.accepted;
+        let mut a = self.out;
+        if x.number == 0 {
+            a = frames::sent(o, a, buf, x.bytes, accepted);
+            accepted = next(accepted);
+        } else {
+            a = answers::tick(o, a, x.number);
+        }
+        self.with(later, accepted, o, a)
+    }
+
+    // One tick; none where there is no controller.
     fn tick(self, l: Lent, v: &Voltages, t: &Temperatures, buf: &mut Buffer, o: &mut Out) -> Kept {
         let held = self.held;
         match held {
             Held::None => self,
-            Held::Of(c) => {
-                let ticked = calls::tick(c, l, v, t, buf);
-                let later = ticked.controller;
-                let tick = self.accepted;
-                if ticked.number == 0 {
-                    let a = frames::sent(o, self.out, buf, ticked.bytes, tick);
-                    self.with(later, next(tick), o, a)
-                } else {
-                    let a = answers::tick(o, self.out, ticked.number);
-                    self.with(later, tick, o, a)
-                }
-            }
+            Held::Of(c) => self.ticked(calls::tick(c, l, v, t, buf), buf, o),
         }
     }
 
