@@ -56,8 +56,11 @@ enum Kind {
     Frame,
 }
 
-// The kind of a line that sets what ticks are lent; what no word begins is a frame.
-fn lending(text: &Text, from: usize) -> Kind {
+// The kind of a line whose first word begins at a place; what no known word begins is a frame.
+fn kind_of(text: &Text, from: usize) -> Kind {
+    if words::is_word(text, from, b"settings") {
+        return Kind::Settings;
+    }
     if words::is_word(text, from, b"readings") {
         return Kind::Readings;
     }
@@ -70,14 +73,6 @@ fn lending(text: &Text, from: usize) -> Kind {
     if words::is_word(text, from, b"buffer") {
         return Kind::Buffer;
     }
-    Kind::Frame
-}
-
-// The kind of a line whose first word begins at a place.
-fn kind_of(text: &Text, from: usize) -> Kind {
-    if words::is_word(text, from, b"settings") {
-        return Kind::Settings;
-    }
     if words::is_word(text, from, b"tick") {
         return Kind::Tick;
     }
@@ -87,7 +82,7 @@ fn kind_of(text: &Text, from: usize) -> Kind {
     if byte_at(text, from) == b'(' {
         return Kind::Logged;
     }
-    lending(text, from)
+    Kind::Frame
 }
 
 // What a line asks for whose first word begins at a place.

@@ -6,18 +6,19 @@ use crate::words;
 // As many characters as a line may have.
 pub const LONGEST: usize = 4096;
 
-// The place of the newline from a place on.
+// The place of the newline from a place on. It is never before that one, so that a walk from line to line ends, nor further than the text
+// is long.
 pub fn line_end(text: &Text, from: usize) -> usize
     ensures { λ r. ⌜ (from ≤ r) × (r ≤ from + 65536) ⌝ }
 {
-    let mut at = from;
-    while at < 65536 {
-        if text[at] == b'\n' {
+    let mut end = from;
+    while end < 65536 {
+        if text[end] == b'\n' {
             break;
         }
-        at += 1;
+        end += 1;
     }
-    at
+    end
 }
 
 fn least(a: usize, b: usize) -> usize

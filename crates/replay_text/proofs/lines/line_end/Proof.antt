@@ -5,10 +5,10 @@ use Rattle.replay_text.proofs.lines.line_end.Statement.{statement}
 use Rattle.replay_text.proofs.lines.line_end.Tie as tie
 
 abbrev Inv-loop : tie.InvT-loop
-Inv-loop text from at₀ at = (from ≤ at) × (at ≤ from + 65536)
+Inv-loop text from end₀ end = (from ≤ end) × (end ≤ from + 65536)
 
 abbrev μ-loop : tie.MeasureT-loop
-μ-loop text from at₀ at = 65536 - at
+μ-loop text from end₀ end = 65536 - end
 
 loop-holds : tie.Need-loop-holds Inv-loop μ-loop
 loop-holds c = search needs
@@ -16,8 +16,8 @@ loop-holds c = search needs
 element-copy-out-if1 : tie.Need-element-copy-out-if1 Inv-loop μ-loop
 element-copy-out-if1 c = search needs
 
-add-at : tie.Need-add-at Inv-loop μ-loop
-add-at c = search needs
+add-end : tie.Need-add-end Inv-loop μ-loop
+add-end c = search needs
 
 loop-less : tie.Need-loop-less Inv-loop μ-loop
 loop-less c = search needs
@@ -39,7 +39,7 @@ line-end-spec =
     μ-loop
     loop-holds
     element-copy-out-if1
-    add-at
+    add-end
     loop-less
     loop-again
     returns
