@@ -221,7 +221,7 @@ Within c = requestIn (c .session .state) ≤ c .settings .limits .current .0
 frame-within : (c : Controller) (id : ℕ) (s : List ℕ) (a : Answer) → Comes c id s a → Within c → Within (a .controller)
 unfolding sessionMoved messageOf appliedOf
 frame-within c id s a (Left k e n) h =
-    subst (λ (z : Settings). requestIn (a .controller .session .state) ≤ z .current) (sym k)
+    subst (λ (z : Settings). requestIn (a .controller .session .state) ≤ z .limits .current .0) (sym k)
     (subst (λ (z : Session). requestIn (z .state) ≤ c .settings .limits .current .0) (sym e) h)
 frame-within c id s a (Took m says may e) h =
     subst (λ (z : Answer). Within (z .controller)) (sym e)

@@ -1,23 +1,22 @@
-// Replays a list of calls: reads them on standard input, a line each (crate scripts), and writes what the controller answers, sends and
-// enters. A blank line or one that begins with `#` is ignored; one that asks for nothing known is answered `unreadable line N`. This
-// crate only joins: it may not know how a line is written, how an answer is printed, or any rule of the paper.
-use lendings::lent::Temperatures;
-use lendings::lent::Voltages;
+// Replays a list of calls: reads them on standard input, a line each (crate replay_script), and writes what the controller answers, sends
+// and enters. This crate reads the input and hands its lines on: it may not know what a line asks for, how an answer is printed, nor
+// any rule of the paper.
 use libc::STDIN_FILENO;
-use printing::Out;
-use reports::Buffer;
-use runs::Run;
-use words::Text;
-use words::hex::Bytes;
-use words::lines;
-use words::lines::Rest;
+use replay_host::lines::Run;
+use replay_print::Buffer;
+use replay_print::out;
+use replay_print::out::Out;
+use replay_script::lent;
+use replay_script::lent::Temperatures;
+use replay_script::lent::Voltages;
+use replay_text::Text;
+use replay_text::hex::Bytes;
+use replay_text::lines;
 
-// A run, how much is held of the line that it is in, what is known of that line's beginning where it was dropped, and whether there may be
-// more input.
+// A run, how many characters are held of the line that it is in, and whether there may be more input.
 struct Place {
     run: Run,
     filled: usize,
-    rest: Rest,
     more: bool,
 }
 
@@ -45,26 +44,7 @@ fn or_end(text: &mut Text, filled: usize, count: usize) -> usize {
     65536
 }
 
-// The beginning of a line, moved to the start to be read on; more than a line may have is dropped.
-fn carried(r: Run, text: &mut Text, at: usize, n: usize, rest: Rest, more: bool) -> Place {
-    let k = lines::moved(text, at, n);
-    if k <= 4096 {
-        return Place {
-            run: r,
-            filled: k,
-            rest: rest,
-            more: more,
-        };
-    }
-    Place {
-        run: r,
-        filled: 0,
-        rest: rest.past(text, k),
-        more: more,
-    }
-}
-
-// One read of the input, and the lines that it ends. The end of the input also ends its last line.
+// One read of the input, and the lines that it ends. What is held of the line after these is moved to the start, to be read on.
 fn chunk(
     p: Place,
     text: &mut Text,
@@ -77,28 +57,25 @@ fn chunk(
     let count = fill(text, p.filled);
     let n = or_end(text, p.filled, count);
     let last = lines::past_last(text, n);
-    let mut rest = p.rest;
-    let r = rounds::lines(p.run, rest, text, last, bytes, v, t, buf, o);
-    if 0 < last {
-        rest = Rest::start();
+    let r = replay_host::lines::carry_out_lines(p.run, text, last, bytes, v, t, buf, o);
+    let begun = lines::moved(text, last, n);
+    Place {
+        run: r,
+        filled: lines::shortened(text, begun),
+        more: 0 < count,
     }
-    carried(r, text, last, n, rest, 0 < count)
 }
 
 fn main() {
     let mut text = [0u8; 65536];
     let mut bytes = [0u8; 2048];
-    let mut v = [0u16; 512];
-    let mut t = [0i16; 512];
+    let mut v = lent::first_voltages();
+    let mut t = lent::first_temperatures();
     let mut buf = [0u8; 4096];
     let mut o = [0u8; 65536];
-    // The tables at the start, of one cell each: 3.30 V and 70 F.
-    v[0] = 330;
-    t[0] = 70;
     let mut p = Place {
         run: Run::start(),
         filled: 0,
-        rest: Rest::start(),
         more: true,
     };
     let mut turns = u64::MAX;
@@ -110,5 +87,5 @@ fn main() {
         turns -= 1;
     }
     let r = p.run;
-    printing::finish(&o, r.holder.out);
+    out::finish(&o, r.kept.out);
 }

@@ -9,17 +9,14 @@ Inv-loop text₀ bytes₀ v₀ t₀ buf₀ o₀ p₀ turns₀ text bytes v t buf
 abbrev μ-loop : tie.MeasureT-loop
 μ-loop text₀ bytes₀ v₀ t₀ buf₀ o₀ p₀ turns₀ text bytes v t buf o p turns = turns
 
-array-write-v : tie.Need-array-write-v Inv-loop μ-loop
-array-write-v c = search needs
+first-voltages-requires : tie.Need-first-voltages-requires Inv-loop μ-loop
+first-voltages-requires c κs = search needs
 
-array-set-of-t : tie.Need-array-set-of-t Inv-loop μ-loop
-array-set-of-t c = search needs
+first-temperatures-requires : tie.Need-first-temperatures-requires Inv-loop μ-loop
+first-temperatures-requires c κs = search needs
 
 start-requires : tie.Need-start-requires Inv-loop μ-loop
 start-requires c κs = search needs
-
-start-requires-2 : tie.Need-start-requires-2 Inv-loop μ-loop
-start-requires-2 c κs = search needs
 
 loop-holds : tie.Need-loop-holds Inv-loop μ-loop
 loop-holds c = search needs
@@ -48,10 +45,9 @@ main-spec =
     (tie.spec
     Inv-loop
     μ-loop
-    array-write-v
-    array-set-of-t
+    first-voltages-requires
+    first-temperatures-requires
     start-requires
-    start-requires-2
     loop-holds
     chunk-requires
     sub-turns

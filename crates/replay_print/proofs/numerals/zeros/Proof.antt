@@ -1,0 +1,37 @@
+-- `replay_print::numerals::zeros` is safe and ends: the places that are left fall. Assumes nothing.
+use Prim.Native.Nat.{_-_}
+use borrow.Author.Needs.{needs}
+use Rattle.replay_print.proofs.numerals.zeros.Statement.{statement}
+use Rattle.replay_print.proofs.numerals.zeros.Tie as tie
+
+abbrev Inv-loop : tie.InvT-loop
+Inv-loop o₀ at width k a₀ i₀ o a i = Unit {0}
+
+abbrev μ-loop : tie.MeasureT-loop
+μ-loop o₀ at width k a₀ i₀ o a i = 20 - i
+
+loop-holds : tie.Need-loop-holds Inv-loop μ-loop
+loop-holds c = search needs
+
+put-requires : tie.Need-put-requires Inv-loop μ-loop
+put-requires c κs = search needs
+
+add-i : tie.Need-add-i Inv-loop μ-loop
+add-i c = search needs
+
+loop-less : tie.Need-loop-less Inv-loop μ-loop
+loop-less c = search needs
+
+loop-again : tie.Need-loop-again Inv-loop μ-loop
+loop-again c = search needs
+
+returns : tie.Need-returns Inv-loop μ-loop
+returns c = search needs
+
+returns-2 : tie.Need-returns-2 Inv-loop μ-loop
+returns-2 c = search needs
+
+pub zeros-spec : {M : Type 1} → statement M
+zeros-spec =
+    tie.close
+    (tie.spec Inv-loop μ-loop loop-holds put-requires add-i loop-less loop-again returns returns-2)

@@ -1,0 +1,29 @@
+-- `replay_text::digits::with_digit` is safe: a value below 2^48, times a base of one byte, and one byte more fit. Assumes nothing.
+use borrow.Author.Needs.{needs}
+use native.Mathlib.Nat.{mul-le-mul}
+use native.Mathlib.Omega.{arith}
+use Prim.Native.Nat.{ℕ, _*_, _<_, _≤_}
+use Rattle.replay_text.proofs.digits.with_digit.Statement.{statement}
+use Rattle.replay_text.proofs.digits.with_digit.Tie as tie
+
+product : (value base : ℕ) → value < 281474976710656 → base < 256 → value * base ≤ 281474976710656 * 256
+product value base v b = mul-le-mul {n₂ = 281474976710656} {m₂ = 256} (omega arith) (omega arith)
+
+mul-result : tie.Need-mul-result
+mul-result c =
+    let a = c .before .args in
+    omega (arith, product (a .value) (a .base) (omega arith) (omega arith))
+
+add-result : tie.Need-add-result
+add-result c =
+    let a = c .before .args in
+    omega (arith, product (a .value) (a .base) (omega arith) (omega arith))
+
+returns : tie.Need-returns
+returns c = search needs
+
+returns-2 : tie.Need-returns-2
+returns-2 c = search needs
+
+pub with-digit-spec : {M : Type 1} → statement M
+with-digit-spec = tie.close (tie.spec mul-result add-result returns returns-2)
