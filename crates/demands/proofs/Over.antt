@@ -14,6 +14,7 @@ use Rattle.charge_messages.specs.declared.ChargeMessage.the-variants.{Cim, Cvm,
 use Rattle.session_states.specs.declared.states.State.the-variants.{Idle}
 use Rattle.session_by_message.specs.declared.Outcome.the-variants.{Refuse}
 use Rattle.session_by_message.specs.Message.{outcomeOf, inIdle}
+use Rattle.session.specs.Session.{opened}
 use Rattle.session.specs.Message.{sessionAfter, appliedOf, messageOf}
 use Rattle.controller.specs.declared.Controller.{Controller}
 use Rattle.controller.specs.declared.Answer.{Answer}
@@ -21,7 +22,7 @@ use Rattle.session_states.specs.States.{isIdle}
 use Rattle.refusals.specs.Frame.{listed}
 use Rattle.controller.specs.Frame.{refused, mayCharge, frameTo}
 use Rattle.demands.specs.Says.{Says}
-use Rattle.demands.specs.Over.{openedWith, Opens, Ignored}
+use Rattle.demands.specs.Over.{Opens, Ignored}
 use Rattle.demands.proofs.Tests.{first}
 use Rattle.controller.specs.Frame.{sessionMoved}
 use Rattle.demands.proofs.Comes.{Comes, Left, Took, came, says-taken, says-refused}
@@ -36,13 +37,13 @@ module _ (c : Controller) (id : ℕ) (s : List ℕ) (h : c .session .state ≡ I
   abbrev taken : ChargeMessage → Answer
   taken m = sessionMoved c (messageOf (c .settings) (partsOf id .source) (c .session) m)
 
-  opened : taken Cim .controller .session ≡ openedWith (partsOf id .source)
+  cim-session : taken Cim .controller .session ≡ opened (partsOf id .source)
   unfolding sessionMoved messageOf appliedOf outcomeOf inIdle sessionAfter
-  opened = rw h
+  cim-session = rw h
 
-  opened-0 : taken Cim .number ≡ 0
+  cim-taken : taken Cim .number ≡ 0
   unfolding sessionMoved messageOf appliedOf outcomeOf inIdle
-  opened-0 = rw h
+  cim-taken = rw h
 
   kept : (m : ChargeMessage) → inIdle m ≡ Refuse → taken m .controller .session ≡ c .session
   unfolding sessionMoved messageOf appliedOf outcomeOf sessionAfter
@@ -66,8 +67,8 @@ module _ (c : Controller) (id : ℕ) (s : List ℕ) (h : c .session .state ≡ I
       (record {
         cim = says;
         station = listed-is c (partsOf id .source) h may;
-        number = ap (λ (a : Answer). a .number) k ∙ opened-0;
-        session = ap (λ (a : Answer). a .controller .session) k ∙ opened;
+        number = ap (λ (a : Answer). a .number) k ∙ cim-taken;
+        session = ap (λ (a : Answer). a .controller .session) k ∙ cim-session;
       })
   by-message (Cvm b) says may k = inr (ignored (Cvm b) k refl)
   by-message (Cmp o) says may k = inr (ignored (Cmp o) k refl)
@@ -95,8 +96,8 @@ module _ (c : Controller) (id : ℕ) (s : List ℕ) (h : c .session .state ≡ I
       record {
         cim = says;
         station = l;
-        number = ap (λ (a : Answer). a .number) k ∙ opened-0;
-        session = ap (λ (a : Answer). a .controller .session) k ∙ opened;
+        number = ap (λ (a : Answer). a .number) k ∙ cim-taken;
+        session = ap (λ (a : Answer). a .controller .session) k ∙ cim-session;
       }
 
   -- what else a source says, it says in vain: 11 where it is a listed station, 9 where it is not, and nothing is

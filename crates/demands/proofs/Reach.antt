@@ -36,7 +36,7 @@ use Rattle.demands.specs.Machine.{paperNext}
 use Rattle.demands.specs.Events.{Event, FrameReceived, TickMade, RecordWritten, RecordRead, accepts, readInto, isRead, after, afterAll, noSession, endsWithin}
 use Rattle.demands.specs.Apart.{reaching}
 use Rattle.demands.specs.Says.{Says}
-use Rattle.demands.specs.Over.{openedWith}
+use Rattle.session.specs.Session.{opened}
 use Rattle.demands.specs.Reach.{chargingWith, Stretch, UntilCvm, UntilVerified, UntilCmp, UntilCrm, besides, Passing}
 use Rattle.demands.specs.Reach.{Follows, Passes, Ticks, Speaks, Delays, VerifiesLater, Verifies, Offers, Starts}
 use Rattle.demands.proofs.Tests.{or-false}
@@ -229,7 +229,7 @@ module _ (x : Settings) (a : ℕ) (o : Offer) where
 
 -- a station whose CIM was taken, and which follows the handshake in what reaches the session, whatever else comes in
 -- between: Charging, with that station and its last offer
-pub reaches-charging : (c : Controller) (st : ℕ) (o : Offer) (es : List Event) → c .session ≡ openedWith st
+pub reaches-charging : (c : Controller) (st : ℕ) (o : Offer) (es : List Event) → c .session ≡ opened st
     → Follows (c .settings) st o UntilCvm 0 0 (reaching st es) → afterAll c es .session ≡ chargingWith (c .settings) st o
 reaches-charging c st o es h f =
     let w : Now (c .settings) st o UntilCvm 0 0 c =
@@ -241,13 +241,13 @@ reaches-charging c st o es h f =
 
 -- a listed station's CIM, taken in Idle, is such a beginning
 pub cim-opens : (c : Controller) (st id : ℕ) (s : List ℕ) → c .session .state ≡ Idle → listed st (c .settings .stations) ≡ true
-    → Says (c .settings) st Cim id s → after c (FrameReceived id s) .session ≡ openedWith st
+    → Says (c .settings) st Cim id s → after c (FrameReceived id s) .session ≡ opened st
 unfolding after
 cim-opens c st id s i l h =
     let p : partsOf id .source ≡ st = h .source in
     each-opens c id s i (subst (λ (z : ℕ). Says (c .settings) z Cim id s) (sym p) h)
     (ap (λ (z : ℕ). listed z (c .settings .stations)) p ∙ l) .session
-    ∙ ap openedWith p
+    ∙ ap opened p
 
 -- both together: a listed station's CIM in Idle, and the station follows the handshake
 pub from-cim-to-charging : (c : Controller) (st id : ℕ) (s : List ℕ) (o : Offer) (es : List Event)

@@ -10,16 +10,16 @@ use Rattle.controller.specs.declared.Controller.{Controller}
 use Rattle.controller.specs.Start.{freshOf}
 use Rattle.demands.specs.Events.{Event, FrameReceived, TickMade, after, endsWithin}
 use Rattle.demands.specs.Silent.{Unheeded, Silence, isAcceptedTick, ticksIn, EndsBy}
-use Rattle.demands.specs.Over.{openedWith}
+use Rattle.session.specs.Session as session
 use Rattle.demands.proofs.Silent.{repeated, zeros, quietReadings, such-a-tick, not-within-800}
 use Rattle.demands.proofs.Reach.{cim-opens}
 use Rattle.demands.proofs.ReachRun.{ours, is-listed, cimData, says-cim}
 
 -- ---- a fresh controller, and the CIM that opens its session
-abbrev pub opened : Controller
-opened = after (freshOf ours) (FrameReceived 0x1826_f456 cimData)
+abbrev pub afterCim : Controller
+afterCim = after (freshOf ours) (FrameReceived 0x1826_f456 cimData)
 
-just-opened : opened .session ≡ openedWith 0x56
+just-opened : afterCim .session ≡ session.opened 0x56
 unfolding freshOf
 just-opened = cim-opens (freshOf ours) 0x56 0x1826_f456 cimData refl is-listed says-cim
 
@@ -38,11 +38,11 @@ ticks-many zero = refl
 ticks-many (suc n) = rw (such-a-tick .0, ticks-many n) (omega arith)
 
 -- the session that the CIM opened lives through them
-pub lives-through : endsWithin opened (repeated 800 tick) ≡ false
+pub lives-through : endsWithin afterCim (repeated 800 tick) ≡ false
 lives-through =
-    not-within-800 quietReadings (330 ∷ []) (pos 20 ∷ []) (zeros 117) (such-a-tick .0) (such-a-tick .1) opened 0x56 0 just-opened
+    not-within-800 quietReadings (330 ∷ []) (pos 20 ∷ []) (zeros 117) (such-a-tick .0) (such-a-tick .1) afterCim 0x56 0 just-opened
 
 pub eight-hundred-are-not-enough : EndsBy 800 → ⊥
 eight-hundred-are-not-enough h =
     let n : ticksIn (repeated 800 tick) ≡ 800 = ticks-many 800 in
-    false≢true (sym lives-through ∙ h opened (repeated 800 tick) (ticks-silent 800 opened) (omega (arith, n)))
+    false≢true (sym lives-through ∙ h afterCim (repeated 800 tick) (ticks-silent 800 afterCim) (omega (arith, n)))

@@ -6,24 +6,19 @@ use mathlib.Core.Bool.{true}
 use mathlib.Core.List.{List}
 use Rattle.messages.specs.Identifier.{partsOf}
 use Rattle.charge_messages.specs.declared.ChargeMessage.the-variants.{Cim}
-use Rattle.session_states.specs.declared.states.State.the-variants.{Offered}
-use Rattle.session.specs.declared.Session.{Session}
+use Rattle.session.specs.Session.{opened}
 use Rattle.controller.specs.declared.Controller.{Controller}
 use Rattle.refusals.specs.Frame.{listed}
 use Rattle.controller.specs.Frame.{frameTo}
 use Rattle.demands.specs.Events.{isCharge}
 use Rattle.demands.specs.Says.{Says}
 
--- a session just opened with a station
-abbrev pub openedWith : ℕ → Session
-openedWith source = record { station = source; silence = 0; count = 0; state = Offered }
-
 -- a well-formed CIM from a listed station: every check passes, and the session opens with its source
 pub record Opens (c : Controller) (id : ℕ) (s : List ℕ) : Type 0 where
   pub cim : Says (c .settings) (partsOf id .source) Cim id s
   pub station : listed (partsOf id .source) (c .settings .stations) ≡ true
   pub number : frameTo c id s .number ≡ 0
-  pub session : frameTo c id s .controller .session ≡ openedWith (partsOf id .source)
+  pub session : frameTo c id s .controller .session ≡ opened (partsOf id .source)
 
 -- the session is as it was, and where the frame is a charge message its number is not 0
 pub record Ignored (c : Controller) (id : ℕ) (s : List ℕ) : Type 0 where

@@ -20,14 +20,14 @@ use Rattle.session_states.specs.declared.states.State.the-variants.{Charging}
 use Rattle.session_by_message.specs.Offer.{acceptedOf, stationMaximum}
 use Rattle.session_by_message.specs.Message.{goneOut}
 use Rattle.session.specs.declared.Session.{Session}
+use Rattle.session.specs.Session.{begun, opened}
 use Rattle.session_states.specs.Limits.{silenceLimit, firstEcp}
 use Rattle.demands.specs.Events.{Event, FrameReceived, TickMade, RecordWritten, RecordRead, accepts, isRead}
 use Rattle.demands.specs.Says.{Says}
 
 -- the session where Charging begins, with the offer of the station's last CMP
 abbrev pub chargingWith : Settings → ℕ → Offer → Session
-chargingWith x st o =
-    record { station = st; silence = 0; count = 0; state = Charging (startPhase (x .limits .current) (stationMaximum o)) }
+chargingWith x st o = begun (opened st) (Charging (startPhase (x .limits .current) (stationMaximum o)))
 
 pub data Stretch : Type 0 where
   UntilCvm : Stretch

@@ -152,9 +152,7 @@ fn in_state(
         State::Ready {
             accepted,
             maximum: _,
-        } => {
-            one_each_5(count, session_frames::erm(x, station, accepted))
-        }
+        } => { one_each_5(count, session_frames::erm(x, station, accepted)) }
         State::Charging(p) => charging(x, r, c, station, count, p),
         State::Stopping { acknowledged, est } => {
             stopping(x, r, c, station, count, acknowledged, est)

@@ -95,7 +95,12 @@ pub fn erm(x: Settings, station: u8, accepted: bool) -> Frame
     ensures { λ f. ⌜ f ≡ ermOf x station accepted ⌝ }
 {
     let m = mark(accepted);
-    Frame::new(table::row_at(table::ERM), station, x.own, [m, 0, 0, 0, 0, 0, 0, 0])
+    Frame::new(
+        table::row_at(table::ERM),
+        station,
+        x.own,
+        [m, 0, 0, 0, 0, 0, 0, 0],
+    )
 }
 
 // 3.55 V a cell, in Hold.

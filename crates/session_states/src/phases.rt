@@ -18,7 +18,9 @@ pub enum Phase {
         cycle: u8,
         time: u16,
     },
-    Hold { time: u16 },
+    Hold {
+        time: u16,
+    },
 }
 
 // Why a charge stops: what EST byte 1 tells apart.
