@@ -47,15 +47,22 @@ loop-less : tie.Need-loop-less Inv-loop μ-loop
 loop-less c = search needs
 
 loop-again : tie.Need-loop-again Inv-loop μ-loop
-loop-again c = let t = c .before .before .before .before .args .t .now in
+loop-again c =
+    let t = c .before .before .before .before .args .t .now in
     let l = c .before .before .before .loop in
     let n = length-map t sentOf in
     let s = l .sent in
-    let told = (rw (toZ-ofZ (record { sfits = c .before .sent-of-arg .given })) at (c .sent-of .ensures)) ∙ sym (at-map sentOf (pos 0) t (l .i) (search needs)) in
-    (search needs, length-set s (l .i) (c .sent-of .result .0) ∙ l .inv .1, rw told (filled-again (sentTemperatures t) s (l .i) (omega arith) (omega (arith, n)) (l .inv .2)))
+    let told =
+    (rw (toZ-ofZ (record { sfits = c .before .sent-of-arg .given })) at (c .sent-of .ensures))
+    ∙ sym (at-map sentOf (pos 0) t (l .i) (search needs)) in (
+      search needs,
+      length-set s (l .i) (c .sent-of .result .0) ∙ l .inv .1,
+      rw told (filled-again (sentTemperatures t) s (l .i) (omega arith) (omega (arith, n)) (l .inv .2)),
+    )
 
 returns : tie.Need-returns Inv-loop μ-loop
-returns c = let t = c .before .before .args .t .now in
+returns c =
+    let t = c .before .before .args .t .now in
     let l = c .before .loop in
     let all : l .i ≡ length t = omega arith in
     (l .inv .1, (rw all at (l .inv .2)) ∙ take-all (length t) (sentTemperatures t) (omega (arith, length-map t sentOf)))

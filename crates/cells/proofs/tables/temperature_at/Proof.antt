@@ -22,7 +22,8 @@ sent-of-requires c κs = search needs
 
 returns : tie.Need-returns
 returns c = let a = c .before .before .before .args in
-    (rw (toZ-ofZ (record { sfits = c .before .sent-of-arg .given })) at (c .sent-of .ensures)) ∙ sym (at-map sentOf (pos 0) (a .t .now) (a .i) (search needs))
+    (rw (toZ-ofZ (record { sfits = c .before .sent-of-arg .given })) at (c .sent-of .ensures))
+    ∙ sym (at-map sentOf (pos 0) (a .t .now) (a .i) (search needs))
 
 returns-2 : tie.Need-returns-2
 returns-2 c = let t = c .before .args .t .now in

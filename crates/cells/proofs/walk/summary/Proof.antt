@@ -24,7 +24,13 @@ index-of-requires-2 c κs = search needs
 returns : tie.Need-returns
 returns c =
     let d = c .before .before in
-    rw (c .index-of2 .ensures, c .before .index-of .ensures, d .sum .ensures, d .before .lowest .ensures, d .before .before .highest .ensures)
+    rw (
+      c .index-of2 .ensures,
+      c .before .index-of .ensures,
+      d .sum .ensures,
+      d .before .lowest .ensures,
+      d .before .before .highest .ensures,
+    )
 
 pub summary-spec : {M : Type 1} → statement M
 summary-spec =
