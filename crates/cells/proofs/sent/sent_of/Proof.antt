@@ -36,17 +36,15 @@ returns c =
 
 returns-2 : tie.Need-returns-2
 returns-2 c =
-    let told =
-    sym (c .before .before .n2 .given .1)
-    ∙ (rw (toZ-ofZ (c .before .before .before .before .before .fits .t)) at (c .before .before .before .before .sign-of .ensures)) in
-    sent-below (c .before .before .before .before .before .args .t) _ told (c .if1 .taken)
+    let d = c .before .before .before .before in
+    let told = sym (c .before .before .n2 .given .1) ∙ (rw (toZ-ofZ (d .before .fits .t)) at (d .sign-of .ensures)) in
+    sent-below (d .before .args .t) _ told (c .if1 .taken)
 
 returns-3 : tie.Need-returns-3
 returns-3 c =
-    let told =
-    sym (c .before .before .n2 .given .1)
-    ∙ (rw (toZ-ofZ (c .before .before .before .before .before .fits .t)) at (c .before .before .before .before .sign-of .ensures)) in
-    sent-far-below (c .before .before .before .before .before .args .t) _ told (c .if1 .left)
+    let d = c .before .before .before .before in
+    let told = sym (c .before .before .n2 .given .1) ∙ (rw (toZ-ofZ (d .before .fits .t)) at (d .sign-of .ensures)) in
+    sent-far-below (d .before .args .t) _ told (c .if1 .left)
 
 pub sent-of-spec : {M : Type 1} → statement M
 sent-of-spec =
