@@ -30,7 +30,8 @@ turned k m false e h = eq-eqb (m % 2) 1 (omega (arith, ne (k % 2) (eqb-false (k 
     ne (suc (suc x)) f h = absurd (omega arith)
 
 pub every-second : (tick : ℕ) → heartbeatAt (tick + broadcastEach) ≡ not (heartbeatAt tick)
-every-second tick = turned (tick / broadcastEach) ((tick + broadcastEach) / broadcastEach) (heartbeatAt tick) refl (omega arith)
+every-second tick =
+    turned (tick / broadcastEach) ((tick + broadcastEach) / broadcastEach) (heartbeatAt tick) refl (omega arith)
 
 -- status byte one is 0 to 127: it stands as it is, and with 80 hex above it
 pub status-clear : (one : ℕ) → one ≤ 127 → statusByte false one ≡ one

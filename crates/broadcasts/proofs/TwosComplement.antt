@@ -29,6 +29,7 @@ bits-read-back (negsuc n) f =
 
 -- the word that stands at the current's place
 pub ps-current :
-    (own : ℕ) (heartbeat : Bool) (r : Readings) (c : Cells) → wordAt (psOf own heartbeat r c .bytes) 4 ≡ bitsOf (r .current)
+    (own : ℕ) (heartbeat : Bool) (r : Readings) (c : Cells)
+    → wordAt (psOf own heartbeat r c .bytes) 4 ≡ bitsOf (r .current)
 unfolding psOf
 ps-current own heartbeat r c = omega arith

@@ -13,8 +13,9 @@ use Rattle.readings.specs.declared.Readings.{Readings}
 use Rattle.readings.specs.Readings.{bitsOf}
 use Rattle.cells.specs.declared.Cells.{Cells}
 use Rattle.cells.specs.Sent.{temperatureByte, countByte, indexByte}
-use Rattle.cells.specs.Figures.{cellCount, averageVoltage, highestVoltage, highestVoltageIndex, lowestVoltage, lowestVoltageIndex}
-use Rattle.cells.specs.Figures.{averageTemperature, highestTemperature, highestTemperatureIndex, lowestTemperature, lowestTemperatureIndex}
+use Rattle.cells.specs.Figures.{cellCount, averageVoltage, averageTemperature}
+use Rattle.cells.specs.Figures.{highestVoltage, highestVoltageIndex, lowestVoltage, lowestVoltageIndex}
+use Rattle.cells.specs.Figures.{highestTemperature, highestTemperatureIndex, lowestTemperature, lowestTemperatureIndex}
 use Rattle.broadcasts.specs.declared.Broadcasts.{Broadcasts}
 
 -- status one with 80 hex, or with it clear (status byte one is 0 to 127, so the rest of it is all of it)

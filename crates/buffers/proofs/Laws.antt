@@ -61,7 +61,8 @@ laid-then {old} {mid} {new} {at} {m} {next} {xs} {ys} a b =
       holds =
           as-sets b
           ∙ (ap (λ (l : List ℕ). sets l m ys) (as-sets a)
-          ∙ (ap (λ (i : ℕ). sets (sets old at xs) i ys) (a .past) ∙ (sym (sets-append old at xs ys) ∙ laid-sets old at (xs ++ ys) r)));
+          ∙ (ap (λ (i : ℕ). sets (sets old at xs) i ys) (a .past)
+          ∙ (sym (sets-append old at xs ys) ∙ laid-sets old at (xs ++ ys) r)));
     }
 
 -- from the buffer's start: the bytes, then the rest of the buffer

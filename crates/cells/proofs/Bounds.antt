@@ -58,7 +58,8 @@ sum-at-most most (x ∷ xs) h =
 in-at-most : (most value : ℕ) (xs : List ℕ) → AtMost most xs → In value xs → value ≤ most
 in-at-most most value xs h i = omega (arith, h (i .place) (i .within), i .has)
 
-pub bounded : (most : ℕ) (xs : List ℕ) → 1 ≤ length xs → length xs ≤ mostCells → AtMost most xs → Bounded most (summaryOf xs)
+pub bounded :
+    (most : ℕ) (xs : List ℕ) → 1 ≤ length xs → length xs ≤ mostCells → AtMost most xs → Bounded most (summaryOf xs)
 bounded most [] a b h = absurd (not-suc-le-zero a)
 bounded most (x ∷ xs) a b h =
     record {
@@ -80,14 +81,16 @@ temperatures-at-most t h i l =
     rw (at-map sentOf (pos 0) t i k) (sent (getD t i (pos 0)) (every-at temperatureOk (pos 0) t i h k) .small)
 
 -- the summaries of tables that are accepted
-pub cells-bounded : (v : List ℕ) (t : List ℤ) → tablesFit v t ≡ true → cellsInRange v t ≡ true → BoundedCells (cellsOf v t)
+pub cells-bounded :
+    (v : List ℕ) (t : List ℤ) → tablesFit v t ≡ true → cellsInRange v t ≡ true → BoundedCells (cellsOf v t)
 cells-bounded v t f r =
     let n = length-map t sentOf in
     let g = fit v t f in
     record {
       volts = bounded mostVoltage v (g .some) (g .most) (voltages-at-most v (voltages-good v t r));
       heat =
-          bounded mostSent (sentTemperatures t) (omega (arith, n, g .same, g .some)) (omega (arith, n, g .same, g .most))
+          bounded mostSent (sentTemperatures t) (omega (arith, n, g .same, g .some))
+          (omega (arith, n, g .same, g .most))
           (temperatures-at-most t (temperatures-good v t r));
     }
 

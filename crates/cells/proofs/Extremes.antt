@@ -105,11 +105,13 @@ pub index-here : (k x : ℕ) (xs : List ℕ) → indexFrom k x (x ∷ xs) ≡ k
 unfolding indexFrom
 index-here k x xs = rw (eq-eqb x x refl)
 
-pub index-after : (k value x : ℕ) (xs : List ℕ) → (x ≡ value → ⊥) → indexFrom k value (x ∷ xs) ≡ indexFrom (suc k) value xs
+pub index-after :
+    (k value x : ℕ) (xs : List ℕ) → (x ≡ value → ⊥) → indexFrom k value (x ∷ xs) ≡ indexFrom (suc k) value xs
 unfolding indexFrom
 index-after k value x xs n = rw (ne-eqb x value n)
 
-first-later : (k value x index : ℕ) (xs : List ℕ) → (x ≡ value → ⊥) → First (suc k) value index xs → First k value index (x ∷ xs)
+first-later :
+    (k value x index : ℕ) (xs : List ℕ) → (x ≡ value → ⊥) → First (suc k) value index xs → First k value index (x ∷ xs)
 first-later k value x index xs n f =
     let p : index - k ≡ suc (index - suc k) = omega (arith, f .from) in
     record {
@@ -151,9 +153,11 @@ first-of : {value : ℕ} {xs : List ℕ} → In value xs → First 1 value (inde
 first-of {value} {xs} i = index-first 1 value xs (i .place) (i .within) (i .has)
 
 -- The index of the highest, from 1, is that of the first cell that has it (that no cell is above it is `none-above`).
-pub highest-first : (x : ℕ) (xs : List ℕ) → First 1 (highestOf (x ∷ xs)) (indexFrom 1 (highestOf (x ∷ xs)) (x ∷ xs)) (x ∷ xs)
+pub highest-first :
+    (x : ℕ) (xs : List ℕ) → First 1 (highestOf (x ∷ xs)) (indexFrom 1 (highestOf (x ∷ xs)) (x ∷ xs)) (x ∷ xs)
 highest-first x xs = first-of (highest-in x xs)
 
 -- The index of the lowest likewise (that no cell is below it is `none-below`).
-pub lowest-first : (x : ℕ) (xs : List ℕ) → First 1 (lowestOf (x ∷ xs)) (indexFrom 1 (lowestOf (x ∷ xs)) (x ∷ xs)) (x ∷ xs)
+pub lowest-first :
+    (x : ℕ) (xs : List ℕ) → First 1 (lowestOf (x ∷ xs)) (indexFrom 1 (lowestOf (x ∷ xs)) (x ∷ xs)) (x ∷ xs)
 lowest-first x xs = first-of (lowest-in x xs)

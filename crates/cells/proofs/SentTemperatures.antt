@@ -1,16 +1,22 @@
--- A temperature as it is sent: by its sign, and of one in range. Assumes nothing.
+-- A temperature as it is sent: by its sign, of one in range, and at a place of a table. Assumes nothing.
 use Prim.Native.Nat.{ℕ, suc, _+_, _-_, _≤_, _<_}
-use mathlib.Core.Path.{_≡_, refl, sym}
+use mathlib.Core.Path.{_≡_, refl, sym, _∙_}
 use mathlib.Core.Bool.{true}
+use mathlib.Core.List.{List}
 use native.Mathlib.Omega.{arith}
 use borrow.Author.Tests.{leb-true, le-ltb, lt-ltb}
 use lib.Dec.{leb}
 use lib.IntN.{ℤ, pos, negsuc, _+ℤ_}
+use lib.ListN.{length, getD}
+use mir.Facts.{toZ-ofZ}
+use mir.Syntax.{w16}
+use mir.Val.{SFits, toZ, ofZ}
 use Rattle.units.specs.declared.Signed.the-variants.{NotBelow, Below}
 use Rattle.units.specs.Signed.{signedOf}
 use Rattle.units.proofs.Sign.{is-not-below, is-below}
 use Rattle.cells.specs.Tables.{temperatureOk}
-use Rattle.cells.specs.Sent.{sentOf, mostSent}
+use Rattle.cells.specs.Sent.{sentOf, sentTemperatures, mostSent}
+use Rattle.cells.proofs.Every.{at-map}
 use Rattle.buffers.proofs.Tests.{and-left}
 
 -- a number that is not below 0, one that is below it by at most 50, and one that is below it by more
@@ -38,3 +44,9 @@ sent (negsuc n) h =
 
 pub sent-is : (t : ℤ) → temperatureOk t ≡ true → pos (sentOf t) ≡ t +ℤ pos 50
 sent-is t h = sym (sent t h .shifted)
+
+-- What `sent_of` told of the cell at i is the cell at i of the temperatures as they are sent.
+pub sent-at :
+    (t : List ℤ) (i : ℕ) {sent : ℕ} → i < length t → SFits w16 (getD t i (pos 0))
+    → sent ≡ sentOf (toZ w16 (ofZ w16 (getD t i (pos 0)))) → sent ≡ getD (sentTemperatures t) i 0
+sent-at t i h fits e = (rw (toZ-ofZ fits) at e) ∙ sym (at-map sentOf (pos 0) t i h)

@@ -1,5 +1,5 @@
--- Walks from the front of a table: one that keeps a value (the sum, the highest, the lowest so far), one that looks for
--- a value, and one that fills another table. Assumes nothing.
+-- Walks from the front of a table of numbers, the voltages or the temperatures as they are sent: one that keeps a value
+-- (the sum, the highest, the lowest so far), and one that looks for a value. Assumes nothing.
 use Prim.Native.Nat.{ℕ, suc, _+_, _≤_, _<_}
 use mathlib.Core.Path.{_≡_, refl, sym, _∙_}
 use mathlib.Core.List.{List, [], _∷_}
@@ -9,8 +9,8 @@ use native.Mathlib.Numerals.{add-one}
 use native.Mathlib.Omega.{arith}
 use borrow.Author.Tests.{leb-true, leb-false, le-leb, lt-leb}
 use lib.Dec.{leb}
-use lib.ListN.{length, getD, take, drop, set, drop-of-length-le}
-use lib.Seq.{drop-cons, take-suc, take-suc-set}
+use lib.ListN.{length, getD, drop, drop-of-length-le}
+use lib.Seq.{drop-cons}
 use Rattle.cells.specs.Summaries.{sumOf, highestOf, lowestOf, indexFrom}
 use Rattle.units.specs.Units.{lesserOf}
 use Rattle.cells.specs.InnerWalk.{greaterOf}
@@ -27,7 +27,9 @@ module _ (f : List ℕ → ℕ) (xs : List ℕ) where
   abbrev pub Kept : ℕ → ℕ → Type 0
   Kept i k = f xs ≡ f (k ∷ drop i xs)
 
-  pub kept-again : {keep : ℕ → ℕ → ℕ} → Keeps f keep → (i k : ℕ) → i < length xs → Kept i k → Kept (i + 1) (keep k (getD xs i 0))
+  pub kept-again :
+      {keep : ℕ → ℕ → ℕ} → Keeps f keep → (i k : ℕ) → i < length xs → Kept i k
+      → Kept (i + 1) (keep k (getD xs i 0))
   kept-again s i k l e = e ∙ rw (add-one, drop-cons xs i 0 l) (s .both k (getD xs i 0) (drop (suc i) xs))
 
   pub kept-all : {keep : ℕ → ℕ → ℕ} → Keeps f keep → (i k : ℕ) → length xs ≤ i → Kept i k → k ≡ f xs
@@ -100,7 +102,8 @@ module _ (value : ℕ) (xs : List ℕ) where
 
   -- it may pass the cell at i, if that does not have the value
   pub sought-again : (i : ℕ) → i < length xs → (getD xs i 0 ≡ value → ⊥) → Sought i → Sought (i + 1)
-  sought-again i l n e = e ∙ rw (add-one, drop-cons xs i 0 l) (index-after (suc i) value (getD xs i 0) (drop (suc i) xs) n)
+  sought-again i l n e =
+      e ∙ rw (add-one, drop-cons xs i 0 l) (index-after (suc i) value (getD xs i 0) (drop (suc i) xs) n)
 
   pub sought-here : (i : ℕ) → i < length xs → getD xs i 0 ≡ value → Sought i → i + 1 ≡ indexFrom 1 value xs
   sought-here i l h e = sym (e ∙ rw (drop-cons xs i 0 l, h, add-one) (index-here (suc i) value (drop (suc i) xs)))
@@ -108,9 +111,3 @@ module _ (value : ℕ) (xs : List ℕ) where
   pub sought-none : (i : ℕ) → length xs ≤ i → Sought i → 0 ≡ indexFrom 1 value xs
   unfolding indexFrom
   sought-none i l e = sym (e ∙ rw (drop-of-length-le xs l))
-
--- a table filled from the front: what was put at i stands behind what stood before it
-pub filled-again :
-    (xs ys : List ℕ) (i : ℕ) → i < length ys → i < length xs → take i ys ≡ take i xs
-    → take (i + 1) (set ys i (getD xs i 0)) ≡ take (i + 1) xs
-filled-again xs ys i l h e = rw (add-one, take-suc-set ys i (getD xs i 0) l, take-suc xs i 0 h, e)

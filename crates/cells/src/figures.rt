@@ -2,44 +2,20 @@
 ghost use mathlib.Core.Path.{_≡_};
 ghost use mathlib.Core.Bool.{true};
 ghost use Prim.Native.Nat.{_*_, _≤_, _<_};
-ghost use lib.ListN.{length, take};
-ghost use Rattle.cells.specs.Tables.{mostCells, tablesFit};
-ghost use Rattle.cells.specs.Sent.{sentTemperatures};
-ghost use Rattle.cells.specs.Summaries.{averageOf, summaryOf, cellsOf};
-ghost use Rattle.cells.specs.Figures.{cellCount, highestVoltage, highestVoltageIndex, lowestVoltage, lowestVoltageIndex, averageVoltage};
-ghost use Rattle.cells.specs.Figures.{highestTemperature, highestTemperatureIndex, lowestTemperature, lowestTemperatureIndex, averageTemperature};
+ghost use Rattle.cells.specs.Tables.{tablesFit};
+ghost use Rattle.cells.specs.Summaries.{averageOf, cellsOf};
+ghost use Rattle.cells.specs.Figures.{cellCount, averageVoltage, averageTemperature};
+ghost use Rattle.cells.specs.Figures.{highestVoltage, highestVoltageIndex, lowestVoltage, lowestVoltageIndex};
+ghost use Rattle.cells.specs.Figures.{highestTemperature, highestTemperatureIndex};
+ghost use Rattle.cells.specs.Figures.{lowestTemperature, lowestTemperatureIndex};
 use crate::Cells;
 use crate::Summary;
 use crate::Temperatures;
 use crate::Voltages;
-use crate::sent;
-use crate::tables;
-use crate::walk;
+use crate::heat;
+use crate::volts;
 use units::HundredthVolts;
 use units::SentDegrees;
-
-// The temperatures as they are sent, from the front of a table that has room for the most cells.
-fn sent_table(t: &[i16]) -> [u16; tables::MOST]
-    requires { ⌜ length (now t) ≤ mostCells ⌝ }
-    ensures { λ r. ⌜ (length r ≡ mostCells) × (take (length (now (t .entry))) r ≡ sentTemperatures (now (t .entry))) ⌝ }
-{
-    let mut sent = [0; tables::MOST];
-    let mut i = 0;
-    while i < t.len() {
-        sent[i] = sent::sent_of(t[i]).0;
-        i += 1;
-    }
-    sent
-}
-
-fn temperatures(t: &[i16]) -> Summary
-    requires { ⌜ (1 ≤ length (now t)) × (length (now t) ≤ mostCells) ⌝ }
-    ensures { λ r. ⌜ r ≡ summaryOf (sentTemperatures (now (t .entry))) ⌝ }
-{
-    let n = t.len();
-    let sent = sent_table(t);
-    walk::summary(&sent[0..n])
-}
 
 // Both tables, of which 14 was not said.
 pub fn summarize(v: &[u16], t: &[i16]) -> Cells
@@ -47,8 +23,8 @@ pub fn summarize(v: &[u16], t: &[i16]) -> Cells
     ensures { λ r. ⌜ r ≡ cellsOf (now (v .entry)) (now (t .entry)) ⌝ }
 {
     Cells {
-        volts: Voltages(walk::summary(v)),
-        heat: Temperatures(temperatures(t)),
+        volts: Voltages(volts::summary(v)),
+        heat: Temperatures(heat::summary(t)),
     }
 }
 

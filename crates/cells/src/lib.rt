@@ -6,8 +6,10 @@
 // which the prover does not cover. The unit is put on where figures are kept, in `Voltages` and `Temperatures`.
 pub mod figures;
 pub mod groups;
+mod heat;
 pub mod sent;
 pub mod tables;
+mod volts;
 mod walk;
 
 // A cell's value and its index from 1.

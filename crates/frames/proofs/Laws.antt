@@ -26,7 +26,8 @@ pub records-append : (fs gs : List Frame) → recordsOf (fs ++ gs) ≡ recordsOf
 unfolding recordsOf
 records-append [] gs = refl
 records-append (f ∷ fs) gs =
-    ap (λ (t : List ℕ). recordOf f ++ t) (records-append fs gs) ∙ sym (append-assoc (recordOf f) (recordsOf fs) (recordsOf gs))
+    ap (λ (t : List ℕ). recordOf f ++ t) (records-append fs gs)
+    ∙ sym (append-assoc (recordOf f) (recordsOf fs) (recordsOf gs))
 
 records-one : (f : Frame) → recordOf f ≡ recordsOf (f ∷ [])
 unfolding recordsOf
@@ -38,7 +39,8 @@ unfolding recordsOf
 sent-none old at h = record { count = omega arith; past = omega arith; laid = laid-none old at h }
 
 -- one frame, laid as its record
-pub sent-one : {old new : List ℕ} {at next : ℕ} (f : Frame) → Laid old new at next (recordOf f) → Sent 1 old new at next (f ∷ [])
+pub sent-one :
+    {old new : List ℕ} {at next : ℕ} (f : Frame) → Laid old new at next (recordOf f) → Sent 1 old new at next (f ∷ [])
 sent-one {old} {new} {at} {next} f a =
     record { count = omega arith; past = omega (arith, a .past, length-record f); laid = laid-eq a (records-one f) }
 

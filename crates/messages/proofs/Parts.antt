@@ -33,7 +33,8 @@ pub record Within (p : Identifier) : Type 0 where
   pub ps-8 : p .ps < 256
   pub source-8 : p .source < 256
 
-module _ (n a b c d e f : ℕ) (whole : n ≡ a * 0x400_0000 + b * 0x200_0000 + c * 0x100_0000 + d * 0x1_0000 + e * 0x100 + f)
+module _ (n a b c d e f : ℕ)
+    (whole : n ≡ a * 0x400_0000 + b * 0x200_0000 + c * 0x100_0000 + d * 0x1_0000 + e * 0x100 + f)
     (ha : a < 8) (hb : b < 2) (hc : c < 2) (hd : d < 256) (he : e < 256) (hf : f < 256) where
   at-priority : n / 0x400_0000 % 8 ≡ a
   at-priority = let q : n / 0x400_0000 ≡ a = omega arith in omega arith

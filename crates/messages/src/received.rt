@@ -1,6 +1,7 @@
 // The nine messages that we take, told by their PF (01, "Identifier and message numbers", and number 7).
 ghost use mathlib.Core.Path.{_≡_};
-ghost use Rattle.messages.specs.Received.{rowOf, leastLength, chargeRow, queryRow, recognizedOf, recognizedNumber, pfNumber};
+ghost use Rattle.messages.specs.Received.{rowOf, leastLength, chargeRow, queryRow, recognizedOf};
+ghost use Rattle.messages.specs.Received.{recognizedNumber, pfNumber};
 use crate::identifier::Identifier;
 use crate::table;
 use crate::table::Row;

@@ -52,10 +52,13 @@ module _ (a b c d : Query) where
   first-of-is (suc zero) = refl
   first-of-is (suc (suc zero)) = refl
   first-of-is (suc (suc (suc zero))) = refl
-  first-of-is (suc (suc (suc (suc n)))) = simp (four-0 n, four-1 n, four-2 n, four-3 n, no-more n, take-nil {A = Query} n)
+  first-of-is (suc (suc (suc (suc n)))) =
+      simp (four-0 n, four-1 n, four-2 n, four-3 n, no-more n, take-nil {A = Query} n)
 
   -- the first n of four without the oldest
-  pub left-is : (n m : ℕ) → m ≡ cond (ltb n mostWaiting) n mostWaiting → 0 < m → take (m - 1) (b ∷ c ∷ d ∷ d ∷ []) ≡ drop 1 (take n four)
+  pub left-is :
+      (n m : ℕ) → m ≡ cond (ltb n mostWaiting) n mostWaiting → 0 < m
+      → take (m - 1) (b ∷ c ∷ d ∷ d ∷ []) ≡ drop 1 (take n four)
   left-is zero m e h = absurd (omega (arith, e))
   left-is (suc zero) m e h = rw e
   left-is (suc (suc zero)) m e h = rw e
@@ -89,7 +92,8 @@ module _ (a b c d : Query) where
   some-asks source kind (suc zero) = refl
   some-asks source kind (suc (suc zero)) = refl
   some-asks source kind (suc (suc (suc zero))) = refl
-  some-asks source kind (suc (suc (suc (suc n)))) = simp (four-0 n, four-1 n, four-2 n, four-3 n, take-nil {A = Query} n, or-false)
+  some-asks source kind (suc (suc (suc (suc n)))) =
+      simp (four-0 n, four-1 n, four-2 n, four-3 n, take-nil {A = Query} n, or-false)
 
   -- the oldest, where one waits, and the others
   pub oldest-first : (n : ℕ) → 0 < n → take n four ≡ a ∷ drop 1 (take n four)
@@ -117,7 +121,8 @@ module _ (q r : Queries) where
       p ∙ ap queriesOf (left-is (q .first) (q .second) (q .third) (q .fourth) (q .count) m e h)
 
   pub none-places :
-      (m : ℕ) → m ≡ cond (ltb (q .count) mostWaiting) (q .count) mostWaiting → m ≤ 0 → r ≡ queriesOf [] → r ≡ queriesOf (drop 1 (waiting q))
+      (m : ℕ) → m ≡ cond (ltb (q .count) mostWaiting) (q .count) mostWaiting → m ≤ 0 → r ≡ queriesOf []
+      → r ≡ queriesOf (drop 1 (waiting q))
   unfolding waiting
   none-places m e h p =
       p ∙ ap queriesOf (none-left (q .first) (q .second) (q .third) (q .fourth) (q .count) m e h)

@@ -12,7 +12,8 @@ use Rattle.queries.specs.declared.Kind.{Kind}
 use Rattle.queries.specs.declared.Kind.the-variants.{Voltages, Temperatures}
 use Rattle.queries.specs.declared.Query.{Query}
 use Rattle.queries.specs.Asking.{freshQuery}
-use Rattle.queries.specs.Answering.{perGroup, groupFrame, tableLength, pastEnd, atLast, nextGroup, framesOf, laterOf}
+use Rattle.queries.specs.Answering.{perGroup, groupFrame, tableLength, pastEnd, atLast, nextGroup, framesOf}
+use Rattle.queries.specs.Answering.{laterOf}
 
 module _ (own : ℕ) (v : List ℕ) (t : List ℤ) where
   -- who waits after so many ticks, and all that they sent

@@ -45,7 +45,9 @@ abbrev pub askedList : ℕ → Kind → List Query → List Query
 askedList source kind l = cond (eqb (askNumber source kind l) 0) (l ++ (freshQuery source kind ∷ [])) l
 
 module _ (source : ℕ) (kind : Kind) (l : List Query) where
-  room : (some full : Bool) → leb mostWaiting (length l) ≡ full → eqb (cond some 12 (cond full 13 0)) 0 ≡ true → length l < mostWaiting
+  room :
+      (some full : Bool) → leb mostWaiting (length l) ≡ full → eqb (cond some 12 (cond full 13 0)) 0 ≡ true
+      → length l < mostWaiting
   room true full e h = let z : _≡_ {A = Bool} false true = h in absurd (let y : _≡_ {A = ℕ} 0 1 = cc in omega arith)
   room false true e h = let z : _≡_ {A = Bool} false true = h in absurd (let y : _≡_ {A = ℕ} 0 1 = cc in omega arith)
   room false false e h = leb-false mostWaiting (length l) e
@@ -63,13 +65,15 @@ held q x false h = refl
 
 -- asking goes from list to list
 pub asked-waiting :
-    (q : Queries) (source : ℕ) (kind : Kind) → waiting (queuedOf q source kind .queries) ≡ askedList source kind (waiting q)
+    (q : Queries) (source : ℕ) (kind : Kind)
+    → waiting (queuedOf q source kind .queries) ≡ askedList source kind (waiting q)
 unfolding queuedOf
 asked-waiting q source kind =
     held q (freshQuery source kind) (eqb (askNumber source kind (waiting q)) 0) (taken-has-room source kind (waiting q))
 
 -- and so does answering
-shorter : (q : Query) (qs : List Query) (a b : Bool) → length (cond a qs (cond b qs (nextGroup q ∷ qs))) ≤ length (q ∷ qs)
+shorter :
+    (q : Query) (qs : List Query) (a b : Bool) → length (cond a qs (cond b qs (nextGroup q ∷ qs))) ≤ length (q ∷ qs)
 shorter q qs true b = omega arith
 shorter q qs false true = omega arith
 shorter q qs false false = omega arith

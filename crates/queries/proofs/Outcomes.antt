@@ -18,7 +18,8 @@ use Rattle.queries.specs.declared.Queries.{Queries}
 use Rattle.queries.specs.declared.Answered.{Answered}
 use Rattle.queries.specs.Waiting.{mostWaiting, waiting, queriesOf}
 use Rattle.queries.specs.Asking.{someAsks, askNumber, freshQuery, queuedOf}
-use Rattle.queries.specs.Answering.{perGroup, groupFrame, tableLength, pastEnd, atLast, nextGroup, framesOf, laterOf, Answers}
+use Rattle.queries.specs.Answering.{perGroup, groupFrame, tableLength, pastEnd, atLast, nextGroup, framesOf}
+use Rattle.queries.specs.Answering.{laterOf, Answers}
 use Rattle.queries.proofs.Four.{four-wait, oldest-first}
 
 -- how many wait, as the count says it
@@ -32,7 +33,8 @@ module _ (q : Queries) (source : ℕ) (kind : Kind) where
   asked-12 h = rw h
 
   pub asked-13 :
-      someAsks source kind (waiting q) ≡ false → mostWaiting ≤ q .count → record { number = 13; queries = q } ≡ queuedOf q source kind
+      someAsks source kind (waiting q) ≡ false → mostWaiting ≤ q .count
+      → record { number = 13; queries = q } ≡ queuedOf q source kind
   unfolding queuedOf askNumber
   asked-13 h k = rw (h, full q, le-leb mostWaiting (q .count) k)
 
@@ -130,7 +132,8 @@ module _ (q : Queries) (own : ℕ) (v : List ℕ) (t : List ℤ) where
           frames = rw d (sym (past-frames own v t (q .first) (waiting q) l w h));
         }
 
-    module _ (h : pastEnd v t (q .first) ≡ false) (s : Queries) (g : Frame) (i : g ≡ groupFrame own v t (q .first)) where
+    module _ (h : pastEnd v t (q .first) ≡ false) (s : Queries) (g : Frame)
+        (i : g ≡ groupFrame own v t (q .first)) where
       sends : cond true (g ∷ []) [] ≡ framesOf own v t (waiting q)
       sends =
           ap (λ (x : Frame). x ∷ []) i
@@ -142,7 +145,9 @@ module _ (q : Queries) (own : ℕ) (v : List ℕ) (t : List ℤ) where
           → Answers q own v t (record { queries = s; due = true; frame = g })
       answers-last k e =
           record {
-            later = e ∙ sym (ap queriesOf (last-later own v t (q .first) (waiting q) (drop 1 (waiting q)) (oldest q some) h k));
+            later =
+                let w = waiting q in
+                e ∙ sym (ap queriesOf (last-later own v t (q .first) w (drop 1 w) (oldest q some) h k));
             frames = sends;
           }
 
@@ -152,7 +157,9 @@ module _ (q : Queries) (own : ℕ) (v : List ℕ) (t : List ℤ) where
           → Answers q own v t (record { queries = s; due = true; frame = g })
       answers-more k e =
           record {
-            later = e ∙ sym (ap queriesOf (more-later own v t (q .first) (waiting q) (drop 1 (waiting q)) (oldest q some) h k));
+            later =
+                let w = waiting q in
+                e ∙ sym (ap queriesOf (more-later own v t (q .first) w (drop 1 w) (oldest q some) h k));
             frames = sends;
           }
 

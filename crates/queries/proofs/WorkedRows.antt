@@ -36,7 +36,8 @@ module _ (v : List ℕ) (t : List ℤ) (source group : ℕ) where
       omega (arith, leb-false (length v) (group * 4) p, leb-true (length v) ((group + 1) * 4) l)
 
   pub temperatures-end :
-      length t ≡ 255 → pastEnd v t temperatures ≡ false → atLast v t temperatures ≡ true → pfOf (rowOf Temperatures group) ≡ 0xa0
+      length t ≡ 255 → pastEnd v t temperatures ≡ false → atLast v t temperatures ≡ true
+      → pfOf (rowOf Temperatures group) ≡ 0xa0
   unfolding pastEnd atLast
   temperatures-end n p l =
       omega (arith, leb-false (length t) (group * 8) p, leb-true (length t) ((group + 1) * 8) l)

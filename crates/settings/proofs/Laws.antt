@@ -17,7 +17,8 @@ use Rattle.settings.specs.declared.Settings.{Settings}
 use Rattle.settings.specs.declared.Stations.{Stations}
 use Rattle.settings.specs.declared.SettingsRead.{SettingsRead}
 use Rattle.settings.specs.declared.SettingsRead.the-variants.{Read, Refused}
-use Rattle.settings.specs.Range.{lastAddress, leastStations, mostStations, within, distinct, eachGood, stationList, goodStations, limitsInRange, inRange}
+use Rattle.settings.specs.Range.{lastAddress, leastStations, mostStations, within, distinct, eachGood}
+use Rattle.settings.specs.Range.{stationList, goodStations, limitsInRange, inRange}
 use Rattle.settings.specs.Record.{field, versionList, recordOf}
 use Rattle.settings.specs.Read.{headAt, layoutOf, settingsOf, recordNumber, answerNumber, readOf}
 use Rattle.settings.specs.Write.{Wrote, writeNumber, writtenOf, laterOf}
@@ -37,13 +38,15 @@ within-most least most n e = leb-true n most (and-right (leb least n) (leb n mos
 range-stations : (x : Settings) → inRange x ≡ true → goodStations (x .own) (x .stations) ≡ true
 unfolding inRange
 range-stations x e =
-    and-right (limitsInRange (x .limits)) (goodStations (x .own) (x .stations)) (and-right (within 0 lastAddress (x .own)) _ e)
+    and-right (limitsInRange (x .limits)) (goodStations (x .own) (x .stations))
+    (and-right (within 0 lastAddress (x .own)) _ e)
 
 range-count : (x : Settings) → inRange x ≡ true → within leastStations mostStations (x .stations .count) ≡ true
 unfolding goodStations
 range-count x e =
     let s = x .stations in
-    and-left (within leastStations mostStations (s .count)) (distinct (stationList s) && eachGood (x .own) (stationList s)) (range-stations x e)
+    and-left (within leastStations mostStations (s .count))
+    (distinct (stationList s) && eachGood (x .own) (stationList s)) (range-stations x e)
 
 pub range-some : (x : Settings) → inRange x ≡ true → 1 ≤ x .stations .count
 range-some x e = within-least leastStations mostStations (x .stations .count) (range-count x e)
@@ -59,7 +62,8 @@ and-3 ab ac bc pa pb pc = simp and-true
 
 and-4 : (ab ac ad bc bd cd pa pb pc pd : Bool)
     → (((ab && (ac && ad)) && ((bc && bd) && cd)) && (pa && (pb && (pc && pd))))
-    ≡ (((ab && (ac && (ad && true))) && ((bc && (bd && true)) && ((cd && true) && true))) && (pa && (pb && (pc && (pd && true)))))
+    ≡ (((ab && (ac && (ad && true))) && ((bc && (bd && true)) && ((cd && true) && true)))
+    && (pa && (pb && (pc && (pd && true)))))
 and-4 ab ac ad bc bd cd pa pb pc pd = simp and-true
 
 -- two stations that differ, and one that is 0 to 253 and not our own
@@ -134,12 +138,14 @@ module _ (s : List ℕ) (l : Bool) (layout : l ≡ layoutOf s) where
     pub read-2 : b ≡ false → Says s (Refused 2)
     unfolding recordNumber readOf
     read-2 e =
-        (simp (sym layout ∙ taken, sym (ap inRange values) ∙ (sym range ∙ e)), simp (sym layout ∙ taken, sym (ap inRange values) ∙ (sym range ∙ e)))
+        let told = sym (ap inRange values) ∙ (sym range ∙ e) in
+        (simp (sym layout ∙ taken, told), simp (sym layout ∙ taken, told))
 
     pub read-0 : b ≡ true → Says s (Read x)
     unfolding recordNumber readOf
     read-0 e =
-        (simp (sym layout ∙ taken, sym (ap inRange values) ∙ (sym range ∙ e)), simp (values, sym layout ∙ taken, sym (ap inRange values) ∙ (sym range ∙ e)))
+        let told = sym (ap inRange values) ∙ (sym range ∙ e) in
+        (simp (sym layout ∙ taken, told), simp (values, sym layout ∙ taken, told))
 
 -- ---- the record
 
@@ -149,7 +155,9 @@ length-stations s h = length-take-le (s .count) (s .first ∷ s .second ∷ s .t
 -- the total is 35 + stations
 pub length-record : (x : Settings) → x .stations .count ≤ 4 → length (recordOf x) ≡ 35 + x .stations .count
 unfolding recordOf
-length-record x h = omega (arith, length-append (stationList (x .stations)) (field 7 (versionList (x .versions))), length-stations (x .stations) h)
+length-record x h =
+    let s = x .stations in
+    omega (arith, length-append (stationList s) (field 7 (versionList (x .versions))), length-stations s h)
 
 -- what stands before the stations: 27 bytes
 pub record-front : (x : Settings) → x .stations .count ≤ 4
@@ -157,7 +165,8 @@ pub record-front : (x : Settings) → x .stations .count ≤ 4
     ≡ field 1 (x .own ∷ [])
     ++ (field 2 (wordBytes (x .limits .cell .0))
     ++ (field 3 (wordBytes (x .limits .current .0))
-    ++ (field 4 (wordBytes (x .limits .pack .0)) ++ (field 5 (wordBytes (x .limits .temperature .0)) ++ (6 ∷ wordBytes (x .stations .count))))))
+    ++ (field 4 (wordBytes (x .limits .pack .0))
+    ++ (field 5 (wordBytes (x .limits .temperature .0)) ++ (6 ∷ wordBytes (x .stations .count))))))
     ++ (stationList (x .stations) ++ field 7 (versionList (x .versions)))
 unfolding recordOf
 record-front x h = rw (length-stations (x .stations) h)

@@ -99,7 +99,8 @@ tidy-list : (s : Stations) → 1 ≤ s .count → s .count ≤ 4 → stationList
 tidy-list s h k =
     one-to-four
     (λ (n : ℕ).
-    stationList (tidyStations (record { count = n; first = s .first; second = s .second; third = s .third; fourth = s .fourth }))
+    stationList (tidyStations
+    (record { count = n; first = s .first; second = s .second; third = s .third; fourth = s .fourth }))
     ≡ stationList (record { count = n; first = s .first; second = s .second; third = s .third; fourth = s .fourth }))
     refl refl refl refl (s .count) h k
 
@@ -149,15 +150,19 @@ split (suc k) at s h =
     drop-cons s at 0 (omega arith)
     ∙ ap (λ (t : List ℕ). getD s at 0 ∷ t)
     (ap (λ (i : ℕ). drop i s) (sym (add-one at))
-    ∙ (split k (at + 1) s (omega arith) ∙ (let e : at + 1 + k ≡ at + suc k = omega arith in ap (λ (i : ℕ). elems k (at + 1) s ++ drop i s) e)))
+    ∙ (split k (at + 1) s (omega arith)
+    ∙ (let e : at + 1 + k ≡ at + suc k = omega arith in ap (λ (i : ℕ). elems k (at + 1) s ++ drop i s) e)))
 
 module _ (s : List ℕ) (bytes : Bytes s) where
   -- a field's head, and then its value
-  field-elems : (at tag k : ℕ) → headAt s at tag k ≡ true → elems (suc (suc (suc k))) at s ≡ field tag (elems k (at + 1 + 1 + 1) s)
+  field-elems :
+      (at tag k : ℕ) → headAt s at tag k ≡ true
+      → elems (suc (suc (suc k))) at s ≡ field tag (elems k (at + 1 + 1 + 1) s)
   unfolding Bytes elems headAt
   field-elems at tag k h =
-      let t : getD s at 0 ≡ tag = eqb-true (getD s at 0) tag (and-left (eqb (getD s at 0) tag) (eqb (wordAt s (at + 1)) k) h) in
-      let n : wordAt s (at + 1) ≡ k = eqb-true (wordAt s (at + 1)) k (and-right (eqb (getD s at 0) tag) (eqb (wordAt s (at + 1)) k) h) in
+      let w = wordAt s (at + 1) in
+      let t : getD s at 0 ≡ tag = eqb-true (getD s at 0) tag (and-left (eqb (getD s at 0) tag) (eqb w k) h) in
+      let n : wordAt s (at + 1) ≡ k = eqb-true w k (and-right (eqb (getD s at 0) tag) (eqb w k) h) in
       let l : getD s (at + 1) 0 ≡ k % 256 = omega (arith, bytes (at + 1)) in
       let u : getD s (at + 1 + 1) 0 ≡ k / 256 = omega (arith, bytes (at + 1)) in
       rw (t, l, u, length-elems k (at + 1 + 1 + 1) s)
@@ -178,7 +183,8 @@ module _ (s : List ℕ) (bytes : Bytes s) where
   step : (at tag k : ℕ) → headAt s at tag k ≡ true → at + suc (suc (suc k)) ≤ length s
       → drop at s ≡ field tag (elems k (at + 1 + 1 + 1) s) ++ drop (at + suc (suc (suc k))) s
   step at tag k h room =
-      split (suc (suc (suc k))) at s room ∙ ap (λ (f : List ℕ). f ++ drop (at + suc (suc (suc k))) s) (field-elems at tag k h)
+      split (suc (suc (suc k))) at s room
+      ∙ ap (λ (f : List ℕ). f ++ drop (at + suc (suc (suc k))) s) (field-elems at tag k h)
 
   stations-elems : (n : ℕ) → 1 ≤ n → n ≤ 4 → elems n 27 s ≡ stationList (stationsAt s n)
   unfolding elems stationsAt stationAt
@@ -214,10 +220,13 @@ module _ (s : List ℕ) (bytes : Bytes s) where
       let e7 = step (27 + n) 7 5 (and-right (headAt s 24 6 n) _ l7) (omega arith) in
       let m : 24 + suc (suc (suc n)) ≡ 27 + n = omega arith in
       let z : 27 + n + 8 ≡ length s = omega arith in
-      let last : field 7 (elems 5 (27 + n + 1 + 1 + 1) s) ++ drop (27 + n + 8) s ≡ field 7 (elems 5 (27 + n + 1 + 1 + 1) s) =
+      let last :
+      field 7 (elems 5 (27 + n + 1 + 1 + 1) s) ++ drop (27 + n + 8) s ≡ field 7 (elems 5 (27 + n + 1 + 1 + 1) s) =
       rw (z, drop-length) (append-nil (field 7 (elems 5 (27 + n + 1 + 1 + 1) s))) in
       let tail : drop 24 s ≡ field 6 (elems n 27 s) ++ field 7 (elems 5 (27 + n + 1 + 1 + 1) s) =
-      e6 ∙ (ap (λ (i : ℕ). field 6 (elems n 27 s) ++ drop i s) m ∙ ap (λ (t : List ℕ). field 6 (elems n 27 s) ++ t) (e7 ∙ last)) in
+      e6
+      ∙ (ap (λ (i : ℕ). field 6 (elems n 27 s) ++ drop i s) m
+      ∙ ap (λ (t : List ℕ). field 6 (elems n 27 s) ++ t) (e7 ∙ last)) in
       let whole =
       e1
       ∙ ap (λ (t : List ℕ). field 1 (elems 1 3 s) ++ t)
@@ -230,7 +239,15 @@ module _ (s : List ℕ) (bytes : Bytes s) where
       (e5 ∙ ap (λ (t : List ℕ). field 5 (elems 2 22 s) ++ t) tail)))) in
       sym
       (whole
-      ∙ rw (own-elems, word-elems 7, word-elems 12, word-elems 17, word-elems 22, stations-elems n some four, versions-elems n some four))
+      ∙ rw (
+        own-elems,
+        word-elems 7,
+        word-elems 12,
+        word-elems 17,
+        word-elems 22,
+        stations-elems n some four,
+        versions-elems n some four,
+      ))
 
 -- what a record that was read says of its layout, its ranges and its values
 record Taken (l b : Bool) (x y : Settings) : Type 0 where
@@ -251,8 +268,12 @@ tidy-values : (s : List ℕ) → tidy (settingsOf s) ≡ settingsOf s
 unfolding settingsOf stationsAt stationAt
 tidy-values s =
     let n : ℕ = wordAt s 25 in
-    rw
-    (twice (ltb 0 n) (getD s 27 0), twice (ltb 1 n) (getD s 28 0), twice (ltb 2 n) (getD s 29 0), twice (ltb 3 n) (getD s 30 0))
+    rw (
+      twice (ltb 0 n) (getD s 27 0),
+      twice (ltb 1 n) (getD s 28 0),
+      twice (ltb 2 n) (getD s 29 0),
+      twice (ltb 3 n) (getD s 30 0),
+    )
 
 module _ (s : List ℕ) (x : Settings) (e : readOf s ≡ Read x) where
   read-taken : Taken (layoutOf s) (inRange (settingsOf s)) x (settingsOf s)

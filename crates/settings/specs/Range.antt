@@ -68,7 +68,8 @@ eachGood own (a ∷ l) = (leb a lastAddress && not (eqb a own)) && eachGood own 
 
 -- 1 to 4 of them, distinct, 0 to 253, none our own
 unfoldable pub goodStations : ℕ → Stations → Bool
-goodStations own s = within leastStations mostStations (s .count) && (distinct (stationList s) && eachGood own (stationList s))
+goodStations own s =
+    within leastStations mostStations (s .count) && (distinct (stationList s) && eachGood own (stationList s))
 
 -- the maxima, in the order of the tags
 unfoldable pub limitsInRange : Limits → Bool

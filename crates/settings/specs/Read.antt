@@ -39,7 +39,13 @@ stationAt s n i = cond (ltb i n) (getD s (27 + i) 0) 0
 
 unfoldable pub stationsAt : List ℕ → ℕ → Stations
 stationsAt s n =
-    record { count = n; first = stationAt s n 0; second = stationAt s n 1; third = stationAt s n 2; fourth = stationAt s n 3 }
+    record {
+      count = n;
+      first = stationAt s n 0;
+      second = stationAt s n 1;
+      third = stationAt s n 2;
+      fourth = stationAt s n 3;
+    }
 
 unfoldable pub versionsAt : List ℕ → ℕ → Versions
 versionsAt s at =

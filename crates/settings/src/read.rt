@@ -1,7 +1,8 @@
 // A settings record read: the whole layout first, then the ranges (01, "Settings record", numbers 1 and 2).
 ghost use mathlib.Core.Path.{_≡_};
 ghost use Prim.Native.Nat.{_≤_};
-ghost use Rattle.settings.specs.Read.{headAt, layoutOf, stationAt, stationsAt, versionsAt, limitsOf, settingsOf, recordNumber, answerNumber, readOf};
+ghost use Rattle.settings.specs.Read.{headAt, layoutOf, stationAt, stationsAt, versionsAt, limitsOf, settingsOf};
+ghost use Rattle.settings.specs.Read.{recordNumber, answerNumber, readOf};
 use crate::Limits;
 use crate::Settings;
 use crate::SettingsRead;

@@ -14,7 +14,8 @@ use crate::range;
 // The bytes of the record up to its stations: tags 1 to 5 whole, and tag 6's tag and length.
 fn front(x: Settings) -> [u8; 27]
     requires { ⌜ x .stations .count ≤ 4 ⌝ }
-    ensures { λ r. ⌜ (length r ≡ 27) × (recordOf x ≡ r ++ (stationList (x .stations) ++ field 7 (versionList (x .versions)))) ⌝ }
+    ensures { λ r. ⌜ (length r ≡ 27)
+        × (recordOf x ≡ r ++ (stationList (x .stations) ++ field 7 (versionList (x .versions)))) ⌝ }
 {
     let n = x.stations.count;
     let m = x.limits;

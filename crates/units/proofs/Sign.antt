@@ -38,7 +38,9 @@ below (negsuc n) f h =
     record { size = n; is = record { small = omega arith; same = rw l (ap pos (omega arith)) }; signed = refl }
 
 pub not-below : (c : ℤ) → SFits w16 c → ltZ c (pos 0) ≡ false → NotBelow0 c
-not-below (pos n) f h = let g = f .sfits in record { size = n; is = record { small = omega arith; same = refl }; signed = refl }
+not-below (pos n) f h =
+    let g = f .sfits in
+    record { size = n; is = record { small = omega arith; same = refl }; signed = refl }
 not-below (negsuc n) f h = never (sym h)
 
 pub below-small : (c : ℤ) → SFits w16 c → (n : ℕ) → Below n ≡ signedOf c → n ≤ 32767

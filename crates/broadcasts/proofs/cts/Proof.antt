@@ -44,7 +44,19 @@ new-requires c κs = search needs
 returns : tie.Need-returns
 unfolding ctsOf
 returns c = c .new .ensures
-    ∙ rw (c .before .row-at .ensures, c .before .before .temperature-byte3 .ensures, c .before .before .before .average .ensures, c .before .before .before .before .temperature-byte2 .ensures, c .before .before .before .before .before .lowest .ensures, c .before .before .before .before .before .before .index-byte2 .ensures, c .before .before .before .before .before .before .before .lowest-index .ensures, c .before .before .before .before .before .before .before .before .temperature-byte .ensures, c .before .before .before .before .before .before .before .before .before .highest .ensures, c .before .before .before .before .before .before .before .before .before .before .index-byte .ensures, c .before .before .before .before .before .before .before .before .before .before .before .highest-index .ensures)
+    ∙ rw (
+      c .before .row-at .ensures,
+      c .before .before .temperature-byte3 .ensures,
+      c .before .before .before .average .ensures,
+      c .before .before .before .before .temperature-byte2 .ensures,
+      c .before .before .before .before .before .lowest .ensures,
+      c .before .before .before .before .before .before .index-byte2 .ensures,
+      c .before .before .before .before .before .before .before .lowest-index .ensures,
+      c .before .before .before .before .before .before .before .before .temperature-byte .ensures,
+      c .before .before .before .before .before .before .before .before .before .highest .ensures,
+      c .before .before .before .before .before .before .before .before .before .before .index-byte .ensures,
+      c .before .before .before .before .before .before .before .before .before .before .before .highest-index .ensures,
+    )
 
 pub cts-spec : {M : Type 1} → statement M
 cts-spec =

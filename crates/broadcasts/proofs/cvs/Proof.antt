@@ -53,7 +53,16 @@ new-requires c κs = search needs
 returns : tie.Need-returns
 unfolding cvsOf
 returns c = c .new .ensures
-    ∙ rw (c .before .row-at .ensures, c .before .before .index-byte2 .ensures, c .before .before .before .lowest-index .ensures, c .before .before .before .before .index-byte .ensures, c .before .before .before .before .before .highest-index .ensures, c .before .before .before .before .before .before .lowest .ensures, c .before .before .before .before .before .before .before .highest .ensures, c .before .before .before .before .before .before .before .before .average .ensures)
+    ∙ rw (
+      c .before .row-at .ensures,
+      c .before .before .index-byte2 .ensures,
+      c .before .before .before .lowest-index .ensures,
+      c .before .before .before .before .index-byte .ensures,
+      c .before .before .before .before .before .highest-index .ensures,
+      c .before .before .before .before .before .before .lowest .ensures,
+      c .before .before .before .before .before .before .before .highest .ensures,
+      c .before .before .before .before .before .before .before .before .average .ensures,
+    )
 
 pub cvs-spec : {M : Type 1} → statement M
 cvs-spec =

@@ -38,7 +38,13 @@ new-requires c κs = search needs
 returns : tie.Need-returns
 unfolding psOf
 returns c = c .new .ensures
-    ∙ rw (c .before .row-at .ensures, c .before .before .current-bits .ensures, c .before .before .before .count-byte .ensures, c .before .before .before .before .count .ensures, c .before .before .before .before .before .status-byte .ensures)
+    ∙ rw (
+      c .before .row-at .ensures,
+      c .before .before .current-bits .ensures,
+      c .before .before .before .count-byte .ensures,
+      c .before .before .before .before .count .ensures,
+      c .before .before .before .before .before .status-byte .ensures,
+    )
 
 pub ps-spec : {M : Type 1} → statement M
 ps-spec =

@@ -19,13 +19,21 @@ enum-told : tie.Need-enum-told
 enum-told c = search needs
 
 returns : tie.Need-returns
-returns c = let a = c .before .before .before .before .before .args in
+returns c =
+    let d = c .before .before .before .before in
+    let a = d .before .args in
     c .under .ensures
-    ∙ above-not-below (a .c) _ (sym (c .before .before .n .given .1) ∙ (rw (toZ-ofZ (c .before .before .before .before .before .fits .c)) at (c .before .before .before .before .sign-of .ensures))) (a .maximum)
+    ∙ above-not-below (a .c) _
+    (sym (c .before .before .n .given .1) ∙ (rw (toZ-ofZ (d .before .fits .c)) at (d .sign-of .ensures)))
+    (a .maximum)
 
 returns-2 : tie.Need-returns-2
-returns-2 c = let a = c .before .before .before .args in
-    above-below (a .c) _ (sym (c .enum-told .given .1) ∙ (rw (toZ-ofZ (c .before .before .before .fits .c)) at (c .before .before .sign-of .ensures))) (a .maximum)
+returns-2 c =
+    let d = c .before .before in
+    let a = d .before .args in
+    above-below (a .c) _
+    (sym (c .enum-told .given .1) ∙ (rw (toZ-ofZ (d .before .fits .c)) at (d .sign-of .ensures)))
+    (a .maximum)
 
 pub above-spec : {M : Type 1} → statement M
 above-spec =

@@ -19,10 +19,14 @@ sub-result : tie.Need-sub-result
 sub-result c = search needs
 
 returns : tie.Need-returns
-returns c = bits-not-below _ _ (sym (c .before .n .given .1) ∙ (rw (toZ-ofZ (c .before .before .before .before .fits .c)) at (c .before .before .before .sign-of .ensures)))
+returns c =
+    let d = c .before .before .before in
+    bits-not-below _ _ (sym (c .before .n .given .1) ∙ (rw (toZ-ofZ (d .before .fits .c)) at (d .sign-of .ensures)))
 
 returns-2 : tie.Need-returns-2
-returns-2 c = bits-below _ _ (sym (c .before .n2 .given .1) ∙ (rw (toZ-ofZ (c .before .before .before .before .fits .c)) at (c .before .before .before .sign-of .ensures)))
+returns-2 c =
+    let d = c .before .before .before in
+    bits-below _ _ (sym (c .before .n2 .given .1) ∙ (rw (toZ-ofZ (d .before .fits .c)) at (d .sign-of .ensures)))
 
 pub bits-spec : {M : Type 1} → statement M
 bits-spec =

@@ -16,10 +16,14 @@ enum-known-n-2 : tie.Need-enum-known-n-2
 enum-known-n-2 c = search needs
 
 returns : tie.Need-returns
-returns c = ok-not-below _ _ (sym (c .before .n .given .1) ∙ (rw (toZ-ofZ (c .before .before .before .before .fits .c)) at (c .before .before .before .sign-of .ensures)))
+returns c =
+    let d = c .before .before .before in
+    ok-not-below _ _ (sym (c .before .n .given .1) ∙ (rw (toZ-ofZ (d .before .fits .c)) at (d .sign-of .ensures)))
 
 returns-2 : tie.Need-returns-2
-returns-2 c = ok-below _ _ (sym (c .before .n2 .given .1) ∙ (rw (toZ-ofZ (c .before .before .before .before .fits .c)) at (c .before .before .before .sign-of .ensures)))
+returns-2 c =
+    let d = c .before .before .before in
+    ok-below _ _ (sym (c .before .n2 .given .1) ∙ (rw (toZ-ofZ (d .before .fits .c)) at (d .sign-of .ensures)))
 
 pub current-ok-spec : {M : Type 1} → statement M
 current-ok-spec =

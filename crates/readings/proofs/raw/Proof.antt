@@ -21,16 +21,27 @@ enum-known-n-2 : tie.Need-enum-known-n-2
 enum-known-n-2 c = search needs
 
 add-result : tie.Need-add-result
-add-result c = record { fits = omega (arith, below-small _ (c .before .before .before .before .fits .c) _ (sym (c .before .n2 .given .1) ∙ (rw (toZ-ofZ (c .before .before .before .before .fits .c)) at (c .before .before .before .sign-of .ensures)))) }
+add-result c =
+    let d = c .before .before .before in
+    let told = sym (c .before .n2 .given .1) ∙ (rw (toZ-ofZ (d .before .fits .c)) at (d .sign-of .ensures)) in
+    record { fits = omega (arith, below-small _ (d .before .fits .c) _ told) }
 
 returns : tie.Need-returns
-returns c = raw-under _ _ (sym (c .before .before .n .given .1) ∙ (rw (toZ-ofZ (c .before .before .before .before .before .fits .c)) at (c .before .before .before .before .sign-of .ensures))) (c .if1 .taken)
+returns c =
+    let d = c .before .before .before .before in
+    let told = sym (c .before .before .n .given .1) ∙ (rw (toZ-ofZ (d .before .fits .c)) at (d .sign-of .ensures)) in
+    raw-under _ _ told (c .if1 .taken)
 
 returns-2 : tie.Need-returns-2
-returns-2 c = raw-over _ _ (sym (c .before .before .n .given .1) ∙ (rw (toZ-ofZ (c .before .before .before .before .before .fits .c)) at (c .before .before .before .before .sign-of .ensures))) (c .if1 .left)
+returns-2 c =
+    let d = c .before .before .before .before in
+    let told = sym (c .before .before .n .given .1) ∙ (rw (toZ-ofZ (d .before .fits .c)) at (d .sign-of .ensures)) in
+    raw-over _ _ told (c .if1 .left)
 
 returns-3 : tie.Need-returns-3
-returns-3 c = raw-below _ _ (sym (c .before .n2 .given .1) ∙ (rw (toZ-ofZ (c .before .before .before .before .fits .c)) at (c .before .before .before .sign-of .ensures)))
+returns-3 c =
+    let d = c .before .before .before in
+    raw-below _ _ (sym (c .before .n2 .given .1) ∙ (rw (toZ-ofZ (d .before .fits .c)) at (d .sign-of .ensures)))
 
 pub raw-spec : {M : Type 1} → statement M
 raw-spec =

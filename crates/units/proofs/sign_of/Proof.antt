@@ -15,7 +15,9 @@ other : (c : tie.Else1) → NotBelow0 (c .before .args .c)
 other c = not-below (c .before .args .c) (c .before .fits .c) (rw (toZ-ofZ (c .before .fits .c)) at (c .if1 .left))
 
 sub-t4 : tie.Need-sub-t4
-sub-t4 c = let s = under c .is in record { sfits = rw (toZ-ofZ (c .before .fits .c), s .same) (omega (arith, s .small)) }
+sub-t4 c =
+    let s = under c .is in
+    record { sfits = rw (toZ-ofZ (c .before .fits .c), s .same) (omega (arith, s .small)) }
 
 cast-t5 : tie.Need-cast-t5
 cast-t5 c =
@@ -27,7 +29,8 @@ cast-t6 c = let s = other c .is in rw (toZ-ofZ (c .before .fits .c), s .same) (t
 returns : tie.Need-returns
 returns c =
     let u = under c in
-    rw (toZ-ofZ (sub-t4 c), toZ-ofZ (c .before .fits .c)) (ap (λ (z : ℤ). Below (natAbs z)) (u .is .same) ∙ sym (u .signed))
+    rw (toZ-ofZ (sub-t4 c), toZ-ofZ (c .before .fits .c))
+    (ap (λ (z : ℤ). Below (natAbs z)) (u .is .same) ∙ sym (u .signed))
 
 returns-2 : tie.Need-returns-2
 returns-2 c =

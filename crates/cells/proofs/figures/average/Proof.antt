@@ -11,7 +11,8 @@ div-result : tie.Need-div-result
 div-result c = search needs
 
 cast-result-2 : tie.Need-cast-result-2
-cast-result-2 c = record { fits = div-lt-iff-lt-mul {k = c .before .before .args .s .count} (search needs) .1 (search needs) }
+cast-result-2 c =
+    record { fits = div-lt-iff-lt-mul {k = c .before .before .args .s .count} (search needs) .1 (search needs) }
 
 returns : tie.Need-returns
 returns c = search needs

@@ -5,13 +5,17 @@ use Rattle.cells.proofs.figures.summarize.Statement.{statement}
 use Rattle.cells.proofs.figures.summarize.Tie as tie
 
 summary-requires : tie.Need-summary-requires
-summary-requires c κs = let f = fit (c .before .args .v .now) (c .before .args .t .now) (c .before .pre) in (f .some, f .most)
+summary-requires c κs =
+    let f = fit (c .before .args .v .now) (c .before .args .t .now) (c .before .pre) in
+    (f .some, f .most)
 
-temperatures-requires : tie.Need-temperatures-requires
-temperatures-requires c κs = let f = fit (c .before .before .args .v .now) (c .before .before .args .t .now) (c .before .before .pre) in (omega (arith, f .same, f .some), omega (arith, f .same, f .most))
+summary-requires-2 : tie.Need-summary-requires-2
+summary-requires-2 c κs =
+    let f = fit (c .before .before .args .v .now) (c .before .before .args .t .now) (c .before .before .pre) in
+    (omega (arith, f .same, f .some), omega (arith, f .same, f .most))
 
 returns : tie.Need-returns
-returns c = rw (c .before .summary .ensures, c .temperatures .ensures)
+returns c = rw (c .before .summary .ensures, c .summary2 .ensures)
 
 pub summarize-spec : {M : Type 1} → statement M
-summarize-spec = tie.close (tie.spec summary-requires temperatures-requires returns)
+summarize-spec = tie.close (tie.spec summary-requires summary-requires-2 returns)

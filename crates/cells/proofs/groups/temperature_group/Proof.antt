@@ -52,7 +52,17 @@ byte-at-requires-8 : tie.Need-byte-at-requires-8
 byte-at-requires-8 c κs = search needs
 
 returns : tie.Need-returns
-returns c = rw (c .before .before .before .before .before .before .before .byte-at .ensures, c .before .before .before .before .before .before .byte-at2 .ensures, c .before .before .before .before .before .byte-at3 .ensures, c .before .before .before .before .byte-at4 .ensures, c .before .before .before .byte-at5 .ensures, c .before .before .byte-at6 .ensures, c .before .byte-at7 .ensures, c .byte-at8 .ensures)
+returns c =
+    rw (
+      c .before .before .before .before .before .before .before .byte-at .ensures,
+      c .before .before .before .before .before .before .byte-at2 .ensures,
+      c .before .before .before .before .before .byte-at3 .ensures,
+      c .before .before .before .before .byte-at4 .ensures,
+      c .before .before .before .byte-at5 .ensures,
+      c .before .before .byte-at6 .ensures,
+      c .before .byte-at7 .ensures,
+      c .byte-at8 .ensures,
+    )
 
 pub temperature-group-spec : {M : Type 1} → statement M
 temperature-group-spec =

@@ -53,7 +53,14 @@ cast-t24 : tie.Need-cast-t24
 cast-t24 c = search needs
 
 returns : tie.Need-returns
-returns c = rw (c .before .before .before .voltage-at .ensures, c .before .before .voltage-at2 .ensures, c .before .voltage-at3 .ensures, c .voltage-at4 .ensures, add-zero)
+returns c =
+    rw (
+      c .before .before .before .voltage-at .ensures,
+      c .before .before .voltage-at2 .ensures,
+      c .before .voltage-at3 .ensures,
+      c .voltage-at4 .ensures,
+      add-zero,
+    )
 
 pub voltage-group-spec : {M : Type 1} → statement M
 voltage-group-spec =

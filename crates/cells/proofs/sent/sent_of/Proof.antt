@@ -15,7 +15,10 @@ enum-known-n : tie.Need-enum-known-n
 enum-known-n c = search needs
 
 add-t6 : tie.Need-add-t6
-add-t6 c = let told = sym (c .before .n .given .1) ∙ (rw (toZ-ofZ (c .before .before .before .before .fits .t)) at (c .before .before .before .sign-of .ensures)) in
+add-t6 c =
+    let told =
+    sym (c .before .n .given .1)
+    ∙ (rw (toZ-ofZ (c .before .before .before .before .fits .t)) at (c .before .before .before .sign-of .ensures)) in
     record { fits = omega (arith, not-below-small _ (c .before .before .before .before .fits .t) _ told) }
 
 enum-known-n-2 : tie.Need-enum-known-n-2
@@ -25,16 +28,23 @@ sub-t10 : tie.Need-sub-t10
 sub-t10 c = search needs
 
 returns : tie.Need-returns
-returns c = let told = sym (c .before .n .given .1) ∙ (rw (toZ-ofZ (c .before .before .before .before .fits .t)) at (c .before .before .before .sign-of .ensures)) in
+returns c =
+    let told =
+    sym (c .before .n .given .1)
+    ∙ (rw (toZ-ofZ (c .before .before .before .before .fits .t)) at (c .before .before .before .sign-of .ensures)) in
     sent-not-below (c .before .before .before .before .args .t) _ told
 
 returns-2 : tie.Need-returns-2
-returns-2 c = let told = sym (c .before .before .n2 .given .1) ∙ (rw (toZ-ofZ (c .before .before .before .before .before .fits .t)) at (c .before .before .before .before .sign-of .ensures)) in
-    sent-below (c .before .before .before .before .before .args .t) _ told (c .if1 .taken)
+returns-2 c =
+    let d = c .before .before .before .before in
+    let told = sym (c .before .before .n2 .given .1) ∙ (rw (toZ-ofZ (d .before .fits .t)) at (d .sign-of .ensures)) in
+    sent-below (d .before .args .t) _ told (c .if1 .taken)
 
 returns-3 : tie.Need-returns-3
-returns-3 c = let told = sym (c .before .before .n2 .given .1) ∙ (rw (toZ-ofZ (c .before .before .before .before .before .fits .t)) at (c .before .before .before .before .sign-of .ensures)) in
-    sent-far-below (c .before .before .before .before .before .args .t) _ told (c .if1 .left)
+returns-3 c =
+    let d = c .before .before .before .before in
+    let told = sym (c .before .before .n2 .given .1) ∙ (rw (toZ-ofZ (d .before .fits .t)) at (d .sign-of .ensures)) in
+    sent-far-below (d .before .args .t) _ told (c .if1 .left)
 
 pub sent-of-spec : {M : Type 1} → statement M
 sent-of-spec =

@@ -1,12 +1,9 @@
 -- `cells::tables::temperature_at` meets its contract. Assumes nothing.
 use lib.ListN.{length-map, List·getD-eq-default}
 use native.Mathlib.Omega.{arith}
-use mathlib.Core.List.{map}
-use Rattle.cells.specs.Sent.{sentOf}
-use Rattle.cells.proofs.Every.{at-map}
-use mir.Facts.{toZ-ofZ}
-use lib.IntN.{pos}
-use mathlib.Core.Path.{sym, _∙_}
+use Rattle.cells.specs.Sent.{sentOf, sentTemperatures}
+use Rattle.cells.proofs.SentTemperatures.{sent-at}
+use mathlib.Core.Path.{sym}
 use borrow.Author.Needs.{needs}
 use Rattle.cells.proofs.tables.temperature_at.Statement.{statement}
 use Rattle.cells.proofs.tables.temperature_at.Tie as tie
@@ -21,12 +18,14 @@ sent-of-requires : tie.Need-sent-of-requires
 sent-of-requires c κs = search needs
 
 returns : tie.Need-returns
-returns c = let a = c .before .before .before .args in
-    (rw (toZ-ofZ (record { sfits = c .before .sent-of-arg .given })) at (c .sent-of .ensures)) ∙ sym (at-map sentOf (pos 0) (a .t .now) (a .i) (search needs))
+returns c =
+    let a = c .before .before .before .args in
+    sent-at (a .t .now) (a .i) (search needs) (record { sfits = c .before .sent-of-arg .given }) (c .sent-of .ensures)
 
 returns-2 : tie.Need-returns-2
-returns-2 c = let t = c .before .args .t .now in
-    sym (List·getD-eq-default (map sentOf t) 0 (omega (arith, length-map t sentOf)))
+returns-2 c =
+    let t = c .before .args .t .now in
+    sym (List·getD-eq-default (sentTemperatures t) 0 (omega (arith, length-map t sentOf)))
 
 pub temperature-at-spec : {M : Type 1} → statement M
 temperature-at-spec =

@@ -34,7 +34,8 @@ loop-less c = search needs
 loop-again : tie.Need-loop-again Inv-loop μ-loop
 loop-again c =
     let l = c .before .before .loop in
-    (search needs, every-again voltageOk 0 (c .before .before .before .args .v .now) (l .i) (l .ok) (search needs) (l .inv .1))
+    let v = c .before .before .before .args .v .now in
+    (search needs, every-again voltageOk 0 v (l .i) (l .ok) (search needs) (l .inv .1))
 
 returns : tie.Need-returns Inv-loop μ-loop
 returns c =

@@ -17,7 +17,12 @@ number-requires : tie.Need-number-requires
 number-requires c κs = search needs
 
 returns : tie.Need-returns
-returns c = c .number .ensures ∙ rw (c .before .ps-of .ensures, c .before .before .pf .ensures, c .before .before .before .priority .ensures)
+returns c =
+    c .number .ensures ∙ rw (
+      c .before .ps-of .ensures,
+      c .before .before .pf .ensures,
+      c .before .before .before .priority .ensures,
+    )
 
 pub identifier-of-spec : {M : Type 1} → statement M
 identifier-of-spec =

@@ -11,10 +11,16 @@ ps-requires : tie.Need-ps-requires
 ps-requires c κs = search needs
 
 returns : tie.Need-returns
-returns c = let e = c .before .pf .ensures in let k = rw e at (c .if1 .taken) in rw (lt-ltb _ _ k)
+returns c =
+    let e = c .before .pf .ensures in
+    let k = rw e at (c .if1 .taken) in
+    rw (lt-ltb _ _ k)
 
 returns-2 : tie.Need-returns-2
-returns-2 c = let e = c .before .before .pf .ensures in let k = rw e at (c .before .if1 .left) in rw (le-ltb _ _ k) (c .ps .ensures)
+returns-2 c =
+    let e = c .before .before .pf .ensures in
+    let k = rw e at (c .before .if1 .left) in
+    rw (le-ltb _ _ k) (c .ps .ensures)
 
 pub ps-of-spec : {M : Type 1} → statement M
 ps-of-spec = tie.close (tie.spec pf-requires ps-requires returns returns-2)

@@ -49,7 +49,8 @@ returns-10 : tie.Need-returns-10
 returns-10 c =
     let r = c .match .rest in
     other (c .before .args .id .pf)
-    (ne-eqb _ _ (r .0 .0 .0 .0 .0 .0 .0 .0 .1)) (ne-eqb _ _ (r .0 .0 .0 .0 .0 .0 .0 .1)) (ne-eqb _ _ (r .0 .0 .0 .0 .0 .0 .1))
+    (ne-eqb _ _ (r .0 .0 .0 .0 .0 .0 .0 .0 .1)) (ne-eqb _ _ (r .0 .0 .0 .0 .0 .0 .0 .1))
+    (ne-eqb _ _ (r .0 .0 .0 .0 .0 .0 .1))
     (ne-eqb _ _ (r .0 .0 .0 .0 .0 .1)) (ne-eqb _ _ (r .0 .0 .0 .0 .1)) (ne-eqb _ _ (r .0 .0 .0 .1))
     (ne-eqb _ _ (r .0 .0 .1)) (ne-eqb _ _ (r .0 .1)) (ne-eqb _ _ (r .1))
 

@@ -2,7 +2,8 @@
 use mathlib.Core.Path.{_∙_}
 use native.Mathlib.Omega.{arith}
 use Rattle.cells.proofs.Bounds.{fit}
-use Rattle.queries.proofs.Outcomes.{answers-none, answers-past, answers-last, answers-more, is-past, not-past, is-last, not-last, group-within, some-wait}
+use Rattle.queries.proofs.Outcomes.{answers-none, answers-past, answers-last, answers-more, is-past, not-past}
+use Rattle.queries.proofs.Outcomes.{is-last, not-last, group-within, some-wait}
 use borrow.Author.Needs.{needs}
 use Rattle.queries.proofs.Queries.answer.Statement.{statement}
 use Rattle.queries.proofs.Queries.answer.Tie as tie
@@ -16,7 +17,8 @@ silent-requires c κs = search needs
 returns : tie.Need-returns
 returns c =
     let s = c .before .before .before .before .before .args in
-    answers-none (s .self) (s .own) (s .v .now) (s .t .now) (c .before .before .if1 .taken) _ (c .silent .ensures .0 ∙ c .before .none .ensures)
+    answers-none (s .self) (s .own) (s .v .now) (s .t .now) (c .before .before .if1 .taken) _
+    (c .silent .ensures .0 ∙ c .before .none .ensures)
     (c .silent .ensures .1)
 
 cast-group : tie.Need-cast-group
@@ -67,11 +69,13 @@ returns-3 c =
     let s = e .before .before .before .args in
     let f = e .before .before .before .pre in
     answers-last (s .self) (s .own) (s .v .now) (s .t .now) (some-wait _ (e .if1 .left))
-    (not-past (s .v .now) (s .t .now) f (s .self .first) _ (g .before .before .cells-before .ensures) (g .before .if2 .left))
+    (not-past (s .v .now) (s .t .now) f (s .self .first) _ (g .before .before .cells-before .ensures)
+    (g .before .if2 .left))
     _
     _
     (g .group-frame .ensures)
-    (is-last (s .v .now) (s .t .now) f (s .self .first) _ (c .before .before .cells-before2 .ensures) (c .before .if3 .taken))
+    (is-last (s .v .now) (s .t .now) f (s .self .first) _ (c .before .before .cells-before2 .ensures)
+    (c .before .if3 .taken))
     (c .left2 .ensures)
 
 moved-requires : tie.Need-moved-requires
@@ -81,7 +85,8 @@ moved-requires c κs =
     let v = s .args .v .now in
     let t = s .args .t .now in (
       some-wait _ (e .if1 .left),
-      group-within (s .args .self .first .kind) _ _ _ (c .before .cells-before2 .ensures) (c .if3 .left) (fit v t (s .pre) .most),
+      group-within (s .args .self .first .kind) _ _ _ (c .before .cells-before2 .ensures) (c .if3 .left)
+          (fit v t (s .pre) .most),
     )
 
 returns-4 : tie.Need-returns-4
@@ -91,11 +96,13 @@ returns-4 c =
     let s = e .before .before .before .args in
     let f = e .before .before .before .pre in
     answers-more (s .self) (s .own) (s .v .now) (s .t .now) (some-wait _ (e .if1 .left))
-    (not-past (s .v .now) (s .t .now) f (s .self .first) _ (g .before .before .cells-before .ensures) (g .before .if2 .left))
+    (not-past (s .v .now) (s .t .now) f (s .self .first) _ (g .before .before .cells-before .ensures)
+    (g .before .if2 .left))
     _
     _
     (g .group-frame .ensures)
-    (not-last (s .v .now) (s .t .now) f (s .self .first) _ (c .before .before .cells-before2 .ensures) (c .before .if3 .left))
+    (not-last (s .v .now) (s .t .now) f (s .self .first) _ (c .before .before .cells-before2 .ensures)
+    (c .before .if3 .left))
     (c .moved .ensures)
 
 pub answer-spec : {M : Type 1} → statement M

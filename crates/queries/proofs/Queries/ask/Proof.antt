@@ -17,7 +17,8 @@ added-requires c κs = search needs
 returns-2 : tie.Need-returns-2
 returns-2 c =
     let w = c .before .before .before .before in
-    asked-0 _ _ _ (sym (w .waits .ensures) ∙ c .before .before .before .if1 .left) (c .before .if2 .taken) _ (c .added .ensures)
+    asked-0 _ _ _ (sym (w .waits .ensures) ∙ c .before .before .before .if1 .left) (c .before .if2 .taken) _
+    (c .added .ensures)
 
 returns-3 : tie.Need-returns-3
 returns-3 c =

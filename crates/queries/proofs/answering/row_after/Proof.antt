@@ -19,7 +19,13 @@ ps-requires : tie.Need-ps-requires
 ps-requires c κs = search needs
 
 returns : tie.Need-returns
-returns c = rw (c .before .before .before .pf .ensures, c .before .before .priority .ensures, c .before .length .ensures, c .ps .ensures)
+returns c =
+    rw (
+      c .before .before .before .pf .ensures,
+      c .before .before .priority .ensures,
+      c .before .length .ensures,
+      c .ps .ensures,
+    )
 
 pub row-after-spec : {M : Type 1} → statement M
 row-after-spec =

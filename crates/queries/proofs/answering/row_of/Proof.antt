@@ -12,7 +12,8 @@ row-at-requires : tie.Need-row-at-requires
 row-at-requires c κs = search needs
 
 row-after-requires : tie.Need-row-after-requires
-row-after-requires c κs = rw (c .row-at .ensures) (omega (arith, rw (c .before .enum-told .given .1) at (c .before .before .before .pre)))
+row-after-requires c κs =
+    rw (c .row-at .ensures) (omega (arith, rw (c .before .enum-told .given .1) at (c .before .before .before .pre)))
 
 enum-told-2 : tie.Need-enum-told-2
 enum-told-2 c = search needs
@@ -21,7 +22,8 @@ row-at-requires-2 : tie.Need-row-at-requires-2
 row-at-requires-2 c κs = search needs
 
 row-after-requires-2 : tie.Need-row-after-requires-2
-row-after-requires-2 c κs = rw (c .row-at2 .ensures) (omega (arith, rw (c .before .enum-told2 .given .1) at (c .before .before .before .pre)))
+row-after-requires-2 c κs =
+    rw (c .row-at2 .ensures) (omega (arith, rw (c .before .enum-told2 .given .1) at (c .before .before .before .pre)))
 
 returns : tie.Need-returns
 returns c = c .row-after .ensures ∙ rw (c .before .row-at .ensures, c .before .before .enum-told .given .1)

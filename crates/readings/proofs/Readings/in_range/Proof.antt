@@ -10,7 +10,9 @@ current-ok-requires c κs = search needs
 
 returns : tie.Need-returns
 unfolding inRange
-returns c = rw (rw (toZ-ofZ (record { sfits = c .before .before .before .struct-told .given .1 .1 .1 .0 .1 })) at (c .before .before .current-ok .ensures))
+returns c =
+    let d = c .before .before in
+    rw (rw (toZ-ofZ (record { sfits = d .before .struct-told .given .1 .1 .1 .0 .1 })) at (d .current-ok .ensures))
 
 pub in-range-spec : {M : Type 1} → statement M
 in-range-spec = tie.close (tie.spec current-ok-requires returns)

@@ -19,7 +19,13 @@ within-requires-4 c κs = search needs
 
 returns : tie.Need-returns
 unfolding limitsInRange
-returns c = rw (c .before .before .before .within .ensures, c .before .before .within2 .ensures, c .before .within3 .ensures, c .within4 .ensures)
+returns c =
+    rw (
+      c .before .before .before .within .ensures,
+      c .before .before .within2 .ensures,
+      c .before .within3 .ensures,
+      c .within4 .ensures,
+    )
 
 pub limits-in-range-spec : {M : Type 1} → statement M
 limits-in-range-spec =

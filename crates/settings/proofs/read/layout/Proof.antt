@@ -42,8 +42,10 @@ add-result : tie.Need-add-result
 add-result c = search needs
 
 returns : tie.Need-returns
-returns c = let b = c .before .before .before .before .before .before .before .before in
-    layout-yes _ _ (b .before .word-at .ensures) (sym (b .within .ensures) ∙ c .before .before .before .before .before .before .before .if1 .taken)
+returns c =
+    let b = c .before .before .before .before .before .before .before .before in
+    layout-yes _ _ (b .before .word-at .ensures)
+    (sym (b .within .ensures) ∙ c .before .before .before .before .before .before .before .if1 .taken)
     _ _ _ _ _ _ _
     (c .before .before .before .before .before .before .head .ensures)
     (c .before .before .before .before .before .head2 .ensures)

@@ -18,7 +18,13 @@ word-at-requires-4 c κs = search needs
 
 returns : tie.Need-returns
 unfolding limitsOf
-returns c = rw (c .before .before .before .word-at .ensures, c .before .before .word-at2 .ensures, c .before .word-at3 .ensures, c .word-at4 .ensures)
+returns c =
+    rw (
+      c .before .before .before .word-at .ensures,
+      c .before .before .word-at2 .ensures,
+      c .before .word-at3 .ensures,
+      c .word-at4 .ensures,
+    )
 
 pub limits-spec : {M : Type 1} → statement M
 limits-spec =

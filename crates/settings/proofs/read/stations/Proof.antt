@@ -18,7 +18,9 @@ station-requires-4 c κs = search needs
 
 returns : tie.Need-returns
 unfolding stationsAt
-returns c = rw (c .before .before .before .station .ensures, c .before .before .station2 .ensures, c .before .station3 .ensures, c .station4 .ensures)
+returns c =
+    let d = c .before .before in
+    rw (d .before .station .ensures, d .station2 .ensures, c .before .station3 .ensures, c .station4 .ensures)
 
 pub stations-spec : {M : Type 1} → statement M
 stations-spec =

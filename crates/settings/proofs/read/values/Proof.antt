@@ -27,7 +27,14 @@ versions-requires c κs = search needs
 
 returns : tie.Need-returns
 unfolding settingsOf
-returns c = rw (c .versions .ensures, c .before .stations .ensures, c .before .before .limits .ensures, c .before .before .before .byte-at .ensures, c .before .before .before .before .word-at .ensures)
+returns c =
+    rw (
+      c .versions .ensures,
+      c .before .stations .ensures,
+      c .before .before .limits .ensures,
+      c .before .before .before .byte-at .ensures,
+      c .before .before .before .before .word-at .ensures,
+    )
 
 pub values-spec : {M : Type 1} → statement M
 values-spec =

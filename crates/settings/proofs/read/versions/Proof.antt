@@ -33,7 +33,15 @@ byte-at-requires-5 c κs = search needs
 
 returns : tie.Need-returns
 unfolding versionsAt
-returns c = rw (c .before .before .before .before .byte-at .ensures, c .before .before .before .byte-at2 .ensures, c .before .before .byte-at3 .ensures, c .before .byte-at4 .ensures, c .byte-at5 .ensures)
+returns c =
+    let d = c .before .before in
+    rw (
+      d .before .before .byte-at .ensures,
+      d .before .byte-at2 .ensures,
+      d .byte-at3 .ensures,
+      c .before .byte-at4 .ensures,
+      c .byte-at5 .ensures,
+    )
 
 pub versions-spec : {M : Type 1} → statement M
 versions-spec =

@@ -44,12 +44,16 @@ same-length : tie.Need-same-length
 same-length c = search needs
 
 returns : tie.Need-returns
-returns c = let x = c .before .before .before .before .before .before .before .before .before .before .before .before .before .before .before .before .before .before .before .before .before .args .x in
+returns c =
+    let m = c .before .before .before .before .before .before .before in
+    let l = m .before .before .before .before .before .before in
+    let f = l .before .before .before in
+    let x = f .before .before .before .before .before .args .x in
     let s = x .stations in
     let t : List ℕ = s .first ∷ s .second ∷ s .third ∷ s .fourth ∷ [] in
-    let middle = laid-eq (c .before .before .before .before .before .before .before .lay2 .ensures) (ap (λ (k : ℕ). take k t) (sub-zero (s .count))) in
-    laid-eq (laid-then (c .before .before .before .before .before .before .before .before .before .before .before .before .before .lay .ensures) (laid-then middle (c .before .before .lay3 .ensures)))
-    (sym (c .before .before .before .before .before .before .before .before .before .before .before .before .before .before .before .before .front .ensures .1))
+    let middle = laid-eq (m .lay2 .ensures) (ap (λ (k : ℕ). take k t) (sub-zero (s .count))) in
+    laid-eq (laid-then (l .lay .ensures) (laid-then middle (c .before .before .lay3 .ensures)))
+    (sym (f .front .ensures .1))
 
 pub lay-record-spec : {M : Type 1} → statement M
 lay-record-spec =

@@ -17,19 +17,34 @@ add-if2 : tie.Need-add-if2
 add-if2 c = search needs
 
 lay-record-requires : tie.Need-lay-record-requires
-lay-record-requires c κs = let h = range-four (c .before .before .before .before .before .before .args .x) (sym (c .before .before .before .before .in-range .ensures) ∙ c .before .before .before .if1 .taken) in (h, omega arith)
+lay-record-requires c κs =
+    let d = c .before .before .before .before in
+    let h =
+    range-four (d .before .before .args .x) (sym (d .in-range .ensures) ∙ c .before .before .before .if1 .taken) in
+    (h, omega arith)
 
 returns : tie.Need-returns
-returns c = wrote-17 (c .before .before .before .before .before .args .x) (now (c .before .before .before .before .before .args .buf)) _ (c .before .before .before .in-range .ensures) (c .before .before .if1 .taken) (c .if2 .taken)
+returns c =
+    let d = c .before .before .before in
+    let a = d .before .before .args in
+    wrote-17 (a .x) (now (a .buf)) _ (d .in-range .ensures) (c .before .before .if1 .taken) (c .if2 .taken)
 
 same-length : tie.Need-same-length
 same-length c = search needs
 
 returns-2 : tie.Need-returns-2
-returns-2 c = wrote-0 (c .before .before .before .before .before .before .before .before .before .args .x) (now (c .before .before .before .before .before .before .before .before .before .args .buf)) _ (c .before .before .before .before .before .before .before .in-range .ensures) (c .before .before .before .before .before .before .if1 .taken) (c .before .before .before .before .if2 .left) _ _ (c .before .before .lay-record .ensures)
+returns-2 c =
+    let l = c .before .before in
+    let f = l .before .before in
+    let d = f .before .before .before in
+    let a = d .before .before .args in
+    wrote-0 (a .x) (now (a .buf)) _ (d .in-range .ensures) (f .before .before .if1 .taken) (f .if2 .left) _ _
+    (l .lay-record .ensures)
 
 returns-3 : tie.Need-returns-3
-returns-3 c = wrote-2 (c .before .before .before .args .x) (now (c .before .before .before .args .buf)) _ (c .before .in-range .ensures) (c .if1 .left)
+returns-3 c =
+    let a = c .before .before .before .args in
+    wrote-2 (a .x) (now (a .buf)) _ (c .before .in-range .ensures) (c .if1 .left)
 
 pub write-settings-spec : {M : Type 1} → statement M
 write-settings-spec =

@@ -1,13 +1,13 @@
--- `cells::walk::sum` meets its contract. The invariant: the sum of the table is that of the value kept and the cells to
--- come, and every cell passed leaves room for the rest. Assumes nothing.
+-- `cells::volts::sum` meets its contract. The invariant: the sum of the table is that of the value kept and the cells
+-- to come, and every cell passed leaves room for the rest. Assumes nothing.
 use Prim.Native.Nat.{_*_, _≤_, _-_}
 use native.Mathlib.Omega.{arith}
 use lib.ListN.{length}
 use Rattle.cells.specs.Summaries.{sumOf}
 use Rattle.cells.proofs.Walks.{Kept, kept-again, kept-all, sum-keeps, sum-begins}
 use borrow.Author.Needs.{needs}
-use Rattle.cells.proofs.walk.sum.Statement.{statement}
-use Rattle.cells.proofs.walk.sum.Tie as tie
+use Rattle.cells.proofs.volts.sum.Statement.{statement}
+use Rattle.cells.proofs.volts.sum.Tie as tie
 
 abbrev Inv-loop : tie.InvT-loop
 Inv-loop v sum₀ i₀ sum i = (i ≤ length v) × (sum ≤ 65535 * i) × Kept sumOf v i sum
@@ -39,8 +39,11 @@ loop-less c = search needs
 loop-again : tie.Need-loop-again Inv-loop μ-loop
 loop-again c =
     let v = c .before .before .before .args .v .now in
-    let l = c .before .before .loop in
-    (search needs, omega (arith, c .shared-slice-known .given (l .i)), kept-again sumOf v sum-keeps (l .i) (l .sum) (search needs) (l .inv .2))
+    let l = c .before .before .loop in (
+      search needs,
+      omega (arith, c .shared-slice-known .given (l .i)),
+      kept-again sumOf v sum-keeps (l .i) (l .sum) (search needs) (l .inv .2),
+    )
 
 returns : tie.Need-returns Inv-loop μ-loop
 returns c =

@@ -1,12 +1,12 @@
--- `cells::walk::highest` meets its contract. The invariant: the highest of the table is that of the value kept and the
+-- `cells::volts::highest` meets its contract. The invariant: the highest of the table is that of the value kept and the
 -- cells to come. Assumes nothing.
 use Prim.Native.Nat.{_≤_, _-_}
 use lib.ListN.{length}
 use Rattle.cells.specs.Summaries.{highestOf}
 use Rattle.cells.proofs.Walks.{Kept, kept-again, kept-all, highest-keeps, highest-begins}
 use borrow.Author.Needs.{needs}
-use Rattle.cells.proofs.walk.highest.Statement.{statement}
-use Rattle.cells.proofs.walk.highest.Tie as tie
+use Rattle.cells.proofs.volts.highest.Statement.{statement}
+use Rattle.cells.proofs.volts.highest.Tie as tie
 
 abbrev Inv-loop : tie.InvT-loop
 Inv-loop v high₀ i₀ high i = (i ≤ length v) × Kept highestOf v i high
@@ -34,13 +34,17 @@ loop-less c = search needs
 
 loop-again : tie.Need-loop-again Inv-loop μ-loop
 loop-again c =
-    let l = c .before .before .before .loop in
-    (search needs, rw (c .greater .ensures) (kept-again highestOf (c .before .before .before .before .before .args .v .now) highest-keeps (l .i) (l .high) (search needs) (l .inv .1)))
+    let v = c .before .before .before .before .before .args .v .now in
+    let l = c .before .before .before .loop in (
+      search needs,
+      rw (c .greater .ensures) (kept-again highestOf v highest-keeps (l .i) (l .high) (search needs) (l .inv .1)),
+    )
 
 returns : tie.Need-returns Inv-loop μ-loop
 returns c =
+    let v = c .before .before .before .args .v .now in
     let l = c .before .loop in
-    kept-all highestOf (c .before .before .before .args .v .now) highest-keeps (l .i) (l .high) (search needs) (l .inv .1)
+    kept-all highestOf v highest-keeps (l .i) (l .high) (search needs) (l .inv .1)
 
 pub highest-spec : {M : Type 1} → statement M
 highest-spec =

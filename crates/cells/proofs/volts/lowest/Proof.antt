@@ -1,12 +1,12 @@
--- `cells::walk::lowest` meets its contract. The invariant: the lowest of the table is that of the value kept and the
+-- `cells::volts::lowest` meets its contract. The invariant: the lowest of the table is that of the value kept and the
 -- cells to come. Assumes nothing.
 use Prim.Native.Nat.{_≤_, _-_}
 use lib.ListN.{length}
 use Rattle.cells.specs.Summaries.{lowestOf}
 use Rattle.cells.proofs.Walks.{Kept, kept-again, kept-all, lowest-keeps, lowest-begins}
 use borrow.Author.Needs.{needs}
-use Rattle.cells.proofs.walk.lowest.Statement.{statement}
-use Rattle.cells.proofs.walk.lowest.Tie as tie
+use Rattle.cells.proofs.volts.lowest.Statement.{statement}
+use Rattle.cells.proofs.volts.lowest.Tie as tie
 
 abbrev Inv-loop : tie.InvT-loop
 Inv-loop v low₀ i₀ low i = (i ≤ length v) × Kept lowestOf v i low
@@ -38,13 +38,16 @@ loop-less c = search needs
 loop-again : tie.Need-loop-again Inv-loop μ-loop
 loop-again c =
     let v = c .before .before .before .before .before .before .args .v .now in
-    let l = c .before .before .before .loop in
-    (search needs, rw (c .lesser .ensures) (kept-again lowestOf v lowest-keeps (l .i) (l .low) (search needs) (l .inv .1)))
+    let l = c .before .before .before .loop in (
+      search needs,
+      rw (c .lesser .ensures) (kept-again lowestOf v lowest-keeps (l .i) (l .low) (search needs) (l .inv .1)),
+    )
 
 returns : tie.Need-returns Inv-loop μ-loop
 returns c =
+    let v = c .before .before .before .before .args .v .now in
     let l = c .before .loop in
-    kept-all lowestOf (c .before .before .before .before .args .v .now) lowest-keeps (l .i) (l .low) (search needs) (l .inv .1)
+    kept-all lowestOf v lowest-keeps (l .i) (l .low) (search needs) (l .inv .1)
 
 pub lowest-spec : {M : Type 1} → statement M
 lowest-spec =

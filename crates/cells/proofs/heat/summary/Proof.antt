@@ -1,7 +1,10 @@
--- `cells::walk::summary` meets its contract: the definition says it in the same steps. Assumes nothing.
+-- `cells::heat::summary` meets its contract: the definition says it in the same steps, and what is sent is
+-- as many as the cells. Assumes nothing.
+use lib.ListN.{length-map}
+use Rattle.cells.specs.Sent.{sentOf}
 use borrow.Author.Needs.{needs}
-use Rattle.cells.proofs.walk.summary.Statement.{statement}
-use Rattle.cells.proofs.walk.summary.Tie as tie
+use Rattle.cells.proofs.heat.summary.Statement.{statement}
+use Rattle.cells.proofs.heat.summary.Tie as tie
 
 cast-count : tie.Need-cast-count
 cast-count c = search needs
@@ -24,7 +27,14 @@ index-of-requires-2 c κs = search needs
 returns : tie.Need-returns
 returns c =
     let d = c .before .before in
-    rw (c .index-of2 .ensures, c .before .index-of .ensures, d .sum .ensures, d .before .lowest .ensures, d .before .before .highest .ensures)
+    rw (
+      c .index-of2 .ensures,
+      c .before .index-of .ensures,
+      d .sum .ensures,
+      d .before .lowest .ensures,
+      d .before .before .highest .ensures,
+      length-map (d .before .before .before .args .t .now) sentOf,
+    )
 
 pub summary-spec : {M : Type 1} → statement M
 summary-spec =

@@ -1,11 +1,11 @@
--- `cells::walk::index_of` meets its contract. The invariant: no cell passed has the value. Assumes nothing.
+-- `cells::volts::index_of` meets its contract. The invariant: no cell passed has the value. Assumes nothing.
 use Prim.Native.Nat.{_≤_, _-_}
 use mathlib.Core.Path.{refl}
 use lib.ListN.{length}
 use Rattle.cells.proofs.Walks.{Sought, sought-again, sought-here, sought-none}
 use borrow.Author.Needs.{needs}
-use Rattle.cells.proofs.walk.index_of.Statement.{statement}
-use Rattle.cells.proofs.walk.index_of.Tie as tie
+use Rattle.cells.proofs.volts.index_of.Statement.{statement}
+use Rattle.cells.proofs.volts.index_of.Tie as tie
 
 abbrev Inv-loop : tie.InvT-loop
 Inv-loop v value i₀ i = (i ≤ length v) × Sought value v i

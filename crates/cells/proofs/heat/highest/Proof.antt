@@ -1,0 +1,75 @@
+-- `cells::heat::highest` meets its contract. The invariant: the highest of the table is that of the value kept and the
+-- cells to come. Assumes nothing.
+use Prim.Native.Nat.{_≤_, _-_}
+use native.Mathlib.Omega.{arith}
+use lib.ListN.{length, length-map}
+use Rattle.cells.specs.Summaries.{highestOf}
+use Rattle.cells.specs.Sent.{sentOf, sentTemperatures}
+use Rattle.cells.proofs.SentTemperatures.{sent-at}
+use Rattle.cells.proofs.Walks.{Kept, kept-again, kept-all, highest-keeps, highest-begins}
+use borrow.Author.Needs.{needs}
+use Rattle.cells.proofs.heat.highest.Statement.{statement}
+use Rattle.cells.proofs.heat.highest.Tie as tie
+
+abbrev Inv-loop : tie.InvT-loop
+Inv-loop t high₀ i₀ high i = (i ≤ length t) × Kept highestOf (sentTemperatures t) i high
+
+abbrev μ-loop : tie.MeasureT-loop
+μ-loop t high₀ i₀ high i = length t - i
+
+loop-holds : tie.Need-loop-holds Inv-loop μ-loop
+loop-holds c = (search needs, highest-begins (sentTemperatures (c .args .t .now)))
+
+mul-sent-of : tie.Need-mul-sent-of Inv-loop μ-loop
+mul-sent-of c = search needs
+
+shared-slice-copy-out-sent-of : tie.Need-shared-slice-copy-out-sent-of Inv-loop μ-loop
+shared-slice-copy-out-sent-of c = search needs
+
+sent-of-requires : tie.Need-sent-of-requires Inv-loop μ-loop
+sent-of-requires c κs = search needs
+
+greater-requires : tie.Need-greater-requires Inv-loop μ-loop
+greater-requires c κs = search needs
+
+add-i : tie.Need-add-i Inv-loop μ-loop
+add-i c = search needs
+
+loop-less : tie.Need-loop-less Inv-loop μ-loop
+loop-less c = search needs
+
+loop-again : tie.Need-loop-again Inv-loop μ-loop
+loop-again c =
+    let t = c .before .before .before .before .before .args .t .now in
+    let n = length-map t sentOf in
+    let l = c .before .before .before .before .loop in
+    let d = c .before in
+    let told =
+    sent-at t (l .i) (search needs) (record { sfits = d .before .sent-of-arg .given }) (d .sent-of .ensures) in (
+      search needs,
+      rw (c .greater .ensures, told)
+          (kept-again highestOf (sentTemperatures t) highest-keeps (l .i) (l .high) (omega (arith, n)) (l .inv .1)),
+    )
+
+returns : tie.Need-returns Inv-loop μ-loop
+returns c =
+    let t = c .before .before .args .t .now in
+    let n = length-map t sentOf in
+    let l = c .before .loop in
+    kept-all highestOf (sentTemperatures t) highest-keeps (l .i) (l .high) (omega (arith, n)) (l .inv .1)
+
+pub highest-spec : {M : Type 1} → statement M
+highest-spec =
+    tie.close
+    (tie.spec
+    Inv-loop
+    μ-loop
+    loop-holds
+    mul-sent-of
+    shared-slice-copy-out-sent-of
+    sent-of-requires
+    greater-requires
+    add-i
+    loop-less
+    loop-again
+    returns)
