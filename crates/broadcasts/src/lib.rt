@@ -1,7 +1,7 @@
 // The five broadcasts as values, and the beat that says when they are sent and whether the heartbeat is on (01,
 // "Broadcasts and cell answers"). This crate may not know sessions, queries, or the buffer that the frames go into.
 ghost use mathlib.Core.Path.{_≡_};
-ghost use Rattle.cells.specs.Bounds.{BoundedCells};
+ghost use Rattle.cells.specs.InnerBounds.{BoundedCells};
 ghost use Rattle.broadcasts.specs.Layouts.{statusByte, psOf, cvsOf, ctsOf, fwsOf, ecOf, broadcastsOf};
 use cells::Cells;
 use cells::sent;

@@ -11,9 +11,9 @@ use lib.Dec.{leb, eqb}
 use lib.IntN.{ℤ, pos}
 use lib.ListN.{length, getD, length-map}
 use Rattle.cells.specs.Tables.{mostCells, mostVoltage, tablesFit, every, voltageOk, temperatureOk, cellsInRange}
-use Rattle.cells.specs.Sent.{sentOf, mostSent, sentTemperatures}
+use Rattle.cells.specs.Sent.{asSent, mostSent, sentTemperatures}
 use Rattle.cells.specs.Summaries.{sumOf, highestOf, lowestOf, summaryOf, cellsOf}
-use Rattle.cells.specs.Bounds.{Bounded, BoundedCells}
+use Rattle.cells.specs.InnerBounds.{Bounded, BoundedCells}
 use Rattle.buffers.proofs.Tests.{and-left, and-right}
 use Rattle.cells.proofs.Every.{every-at, at-map}
 use Rattle.cells.proofs.SentTemperatures.{sent}
@@ -77,14 +77,14 @@ voltages-at-most v h i l = leb-true (getD v i 0) mostVoltage (every-at voltageOk
 
 temperatures-at-most : (t : List ℤ) → every temperatureOk t ≡ true → AtMost mostSent (sentTemperatures t)
 temperatures-at-most t h i l =
-    let k : i < length t = omega (arith, length-map t sentOf) in
-    rw (at-map sentOf (pos 0) t i k) (sent (getD t i (pos 0)) (every-at temperatureOk (pos 0) t i h k) .small)
+    let k : i < length t = omega (arith, length-map t asSent) in
+    rw (at-map asSent (pos 0) t i k) (sent (getD t i (pos 0)) (every-at temperatureOk (pos 0) t i h k) .small)
 
 -- the summaries of tables that are accepted
 pub cells-bounded :
     (v : List ℕ) (t : List ℤ) → tablesFit v t ≡ true → cellsInRange v t ≡ true → BoundedCells (cellsOf v t)
 cells-bounded v t f r =
-    let n = length-map t sentOf in
+    let n = length-map t asSent in
     let g = fit v t f in
     record {
       volts = bounded mostVoltage v (g .some) (g .most) (voltages-at-most v (voltages-good v t r));

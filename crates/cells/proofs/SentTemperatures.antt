@@ -15,25 +15,25 @@ use Rattle.units.specs.declared.Signed.the-variants.{NotBelow, Below}
 use Rattle.units.specs.Signed.{signedOf}
 use Rattle.units.proofs.Sign.{is-not-below, is-below}
 use Rattle.cells.specs.Tables.{temperatureOk}
-use Rattle.cells.specs.Sent.{sentOf, sentTemperatures, mostSent}
+use Rattle.cells.specs.Sent.{asSent, sentTemperatures, mostSent}
 use Rattle.cells.proofs.Every.{at-map}
 use Rattle.buffers.proofs.Tests.{and-left}
 
 -- a number that is not below 0, one that is below it by at most 50, and one that is below it by more
 module _ (t : ℤ) (n : ℕ) where
-  pub sent-not-below : NotBelow n ≡ signedOf t → n + 50 ≡ sentOf t
+  pub sent-not-below : NotBelow n ≡ signedOf t → n + 50 ≡ asSent t
   sent-not-below e = rw (is-not-below t n e)
 
-  pub sent-below : Below n ≡ signedOf t → n ≤ 49 → 49 - n ≡ sentOf t
+  pub sent-below : Below n ≡ signedOf t → n ≤ 49 → 49 - n ≡ asSent t
   sent-below e h = rw (is-below t n e, le-ltb 50 (suc n) (omega arith)) (omega arith)
 
-  pub sent-far-below : Below n ≡ signedOf t → 49 < n → n - 49 ≡ sentOf t
+  pub sent-far-below : Below n ≡ signedOf t → 49 < n → n - 49 ≡ asSent t
   sent-far-below e h = rw (is-below t n e, lt-ltb 50 (suc n) (omega arith)) (omega arith)
 
 -- a temperature in range is sent as F + 50, which is at most 255
 pub record Sent (t : ℤ) : Type 0 where
-  pub small : sentOf t ≤ mostSent
-  pub shifted : t +ℤ pos 50 ≡ pos (sentOf t)
+  pub small : asSent t ≤ mostSent
+  pub shifted : t +ℤ pos 50 ≡ pos (asSent t)
 
 pub sent : (t : ℤ) → temperatureOk t ≡ true → Sent t
 sent (pos n) h = let k = leb-true n 205 h in record { small = omega arith; shifted = refl }
@@ -42,11 +42,11 @@ sent (negsuc n) h =
     let l = le-ltb 50 (suc n) (omega arith) in
     record { small = rw l (omega arith); shifted = rw l }
 
-pub sent-is : (t : ℤ) → temperatureOk t ≡ true → pos (sentOf t) ≡ t +ℤ pos 50
+pub sent-is : (t : ℤ) → temperatureOk t ≡ true → pos (asSent t) ≡ t +ℤ pos 50
 sent-is t h = sym (sent t h .shifted)
 
--- What `sent_of` told of the cell at i is the cell at i of the temperatures as they are sent.
+-- What `as_sent` told of the cell at i is the cell at i of the temperatures as they are sent.
 pub sent-at :
     (t : List ℤ) (i : ℕ) {sent : ℕ} → i < length t → SFits w16 (getD t i (pos 0))
-    → sent ≡ sentOf (toZ w16 (ofZ w16 (getD t i (pos 0)))) → sent ≡ getD (sentTemperatures t) i 0
-sent-at t i h fits e = (rw (toZ-ofZ fits) at e) ∙ sym (at-map sentOf (pos 0) t i h)
+    → sent ≡ asSent (toZ w16 (ofZ w16 (getD t i (pos 0)))) → sent ≡ getD (sentTemperatures t) i 0
+sent-at t i h fits e = (rw (toZ-ofZ fits) at e) ∙ sym (at-map asSent (pos 0) t i h)

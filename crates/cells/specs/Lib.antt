@@ -3,5 +3,5 @@ pub mod Sent
 pub mod Summaries
 pub mod Figures
 pub mod Groups
-pub mod Bounds
+pub mod InnerBounds
 pub mod InnerWalk

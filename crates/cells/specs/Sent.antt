@@ -6,15 +6,15 @@ use mathlib.Core.List.{List, map}
 use lib.IntN.{ℤ, pos, natAbs, _+ℤ_}
 
 -- F + 50: see the law `sent-is` (proofs/SentTemperatures.antt), since a temperature in range is -50 or more
-abbrev pub sentOf : ℤ → ℕ
-sentOf t = natAbs (t +ℤ pos 50)
+abbrev pub asSent : ℤ → ℕ
+asSent t = natAbs (t +ℤ pos 50)
 
 -- 205 F as it is sent
 abbrev pub mostSent : ℕ
 mostSent = 255
 
 abbrev pub sentTemperatures : List ℤ → List ℕ
-sentTemperatures t = map sentOf t
+sentTemperatures t = map asSent t
 
 -- the byte of a temperature as it is sent
 abbrev pub temperatureByte : ℕ → ℕ

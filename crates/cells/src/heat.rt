@@ -18,7 +18,7 @@ fn sum(t: &[i16]) -> u32
     let mut sum = 0;
     let mut i = 0;
     while i < t.len() {
-        sum += sent::sent_of(t[i]).0 as u32;
+        sum += sent::as_sent(t[i]).0 as u32;
         i += 1;
     }
     sum
@@ -30,7 +30,7 @@ fn highest(t: &[i16]) -> u16
     let mut high = 0;
     let mut i = 0;
     while i < t.len() {
-        high = walk::greater(high, sent::sent_of(t[i]).0);
+        high = walk::greater(high, sent::as_sent(t[i]).0);
         i += 1;
     }
     high
@@ -40,10 +40,10 @@ fn lowest(t: &[i16]) -> u16
     requires { ⌜ 1 ≤ length (now t) ⌝ }
     ensures { λ r. ⌜ r ≡ lowestOf (sentTemperatures (now (t .entry))) ⌝ }
 {
-    let mut low = sent::sent_of(t[0]).0;
+    let mut low = sent::as_sent(t[0]).0;
     let mut i = 1;
     while i < t.len() {
-        low = units::lesser(low, sent::sent_of(t[i]).0);
+        low = units::lesser(low, sent::as_sent(t[i]).0);
         i += 1;
     }
     low
@@ -56,7 +56,7 @@ fn index_of(t: &[i16], value: u16) -> u16
 {
     let mut i = 0;
     while i < t.len() {
-        if sent::sent_of(t[i]).0 == value {
+        if sent::as_sent(t[i]).0 == value {
             return (i + 1) as u16;
         }
         i += 1;

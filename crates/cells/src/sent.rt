@@ -1,13 +1,13 @@
 // A temperature as it is sent, and the byte that is sent of a temperature, of a count and of an index: each rule in one
 // place, for broadcasts, cell answers and the station's frames alike.
 ghost use mathlib.Core.Path.{_≡_};
-ghost use Rattle.cells.specs.Sent.{sentOf, temperatureByte, countByte, indexByte};
+ghost use Rattle.cells.specs.Sent.{asSent, temperatureByte, countByte, indexByte};
 use units::SentDegrees;
 use units::Signed;
 
 // F + 50. (A temperature below -50 F is outside its range, and then this is how far below.)
-pub fn sent_of(t: i16) -> SentDegrees
-    ensures { λ r. ⌜ r .0 ≡ sentOf t ⌝ }
+pub fn as_sent(t: i16) -> SentDegrees
+    ensures { λ r. ⌜ r .0 ≡ asSent t ⌝ }
 {
     match units::sign_of(t) {
         Signed::NotBelow(n) => SentDegrees(n + 50),

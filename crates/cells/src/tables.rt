@@ -70,7 +70,7 @@ pub fn temperature_at(t: &[i16], i: usize) -> SentDegrees
     ensures { λ r. ⌜ r .0 ≡ getD (sentTemperatures (now (t .entry))) i 0 ⌝ }
 {
     if i < t.len() {
-        sent::sent_of(t[i])
+        sent::as_sent(t[i])
     } else {
         SentDegrees(0)
     }

@@ -7,7 +7,7 @@ ghost use Prim.Native.Nat.{_+_, _*_, _≤_};
 ghost use lib.ListN.{length};
 ghost use Rattle.frames.specs.Frame.{recordSize};
 ghost use Rattle.frames.specs.Sent.{Sent};
-ghost use Rattle.cells.specs.Bounds.{BoundedCells};
+ghost use Rattle.cells.specs.InnerBounds.{BoundedCells};
 ghost use Rattle.session.specs.Frames.{frameList};
 ghost use Rattle.broadcasts.specs.Sendings.{inOrder, broadcastAt};
 use broadcasts::Broadcasts;

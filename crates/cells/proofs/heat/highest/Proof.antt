@@ -4,7 +4,7 @@ use Prim.Native.Nat.{_≤_, _-_}
 use native.Mathlib.Omega.{arith}
 use lib.ListN.{length, length-map}
 use Rattle.cells.specs.Summaries.{highestOf}
-use Rattle.cells.specs.Sent.{sentOf, sentTemperatures}
+use Rattle.cells.specs.Sent.{asSent, sentTemperatures}
 use Rattle.cells.proofs.SentTemperatures.{sent-at}
 use Rattle.cells.proofs.Walks.{Kept, kept-again, kept-all, highest-keeps, highest-begins}
 use borrow.Author.Needs.{needs}
@@ -20,14 +20,14 @@ abbrev μ-loop : tie.MeasureT-loop
 loop-holds : tie.Need-loop-holds Inv-loop μ-loop
 loop-holds c = (search needs, highest-begins (sentTemperatures (c .args .t .now)))
 
-mul-sent-of : tie.Need-mul-sent-of Inv-loop μ-loop
-mul-sent-of c = search needs
+mul-as-sent : tie.Need-mul-as-sent Inv-loop μ-loop
+mul-as-sent c = search needs
 
-shared-slice-copy-out-sent-of : tie.Need-shared-slice-copy-out-sent-of Inv-loop μ-loop
-shared-slice-copy-out-sent-of c = search needs
+shared-slice-copy-out-as-sent : tie.Need-shared-slice-copy-out-as-sent Inv-loop μ-loop
+shared-slice-copy-out-as-sent c = search needs
 
-sent-of-requires : tie.Need-sent-of-requires Inv-loop μ-loop
-sent-of-requires c κs = search needs
+as-sent-requires : tie.Need-as-sent-requires Inv-loop μ-loop
+as-sent-requires c κs = search needs
 
 greater-requires : tie.Need-greater-requires Inv-loop μ-loop
 greater-requires c κs = search needs
@@ -41,11 +41,11 @@ loop-less c = search needs
 loop-again : tie.Need-loop-again Inv-loop μ-loop
 loop-again c =
     let t = c .before .before .before .before .before .args .t .now in
-    let n = length-map t sentOf in
+    let n = length-map t asSent in
     let l = c .before .before .before .before .loop in
     let d = c .before in
     let told =
-    sent-at t (l .i) (search needs) (record { sfits = d .before .sent-of-arg .given }) (d .sent-of .ensures) in (
+    sent-at t (l .i) (search needs) (record { sfits = d .before .as-sent-arg .given }) (d .as-sent .ensures) in (
       search needs,
       rw (c .greater .ensures, told)
           (kept-again highestOf (sentTemperatures t) highest-keeps (l .i) (l .high) (omega (arith, n)) (l .inv .1)),
@@ -54,7 +54,7 @@ loop-again c =
 returns : tie.Need-returns Inv-loop μ-loop
 returns c =
     let t = c .before .before .args .t .now in
-    let n = length-map t sentOf in
+    let n = length-map t asSent in
     let l = c .before .loop in
     kept-all highestOf (sentTemperatures t) highest-keeps (l .i) (l .high) (omega (arith, n)) (l .inv .1)
 
@@ -65,9 +65,9 @@ highest-spec =
     Inv-loop
     μ-loop
     loop-holds
-    mul-sent-of
-    shared-slice-copy-out-sent-of
-    sent-of-requires
+    mul-as-sent
+    shared-slice-copy-out-as-sent
+    as-sent-requires
     greater-requires
     add-i
     loop-less

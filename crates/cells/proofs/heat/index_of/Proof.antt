@@ -3,7 +3,7 @@ use Prim.Native.Nat.{_≤_, _-_}
 use mathlib.Core.Path.{refl, sym, _∙_}
 use native.Mathlib.Omega.{arith}
 use lib.ListN.{length, length-map}
-use Rattle.cells.specs.Sent.{sentOf, sentTemperatures}
+use Rattle.cells.specs.Sent.{asSent, sentTemperatures}
 use Rattle.cells.proofs.SentTemperatures.{sent-at}
 use Rattle.cells.proofs.Walks.{Sought, sought-again, sought-here, sought-none}
 use borrow.Author.Needs.{needs}
@@ -19,14 +19,14 @@ abbrev μ-loop : tie.MeasureT-loop
 loop-holds : tie.Need-loop-holds Inv-loop μ-loop
 loop-holds c = (search needs, refl)
 
-mul-sent-of : tie.Need-mul-sent-of Inv-loop μ-loop
-mul-sent-of c = search needs
+mul-as-sent : tie.Need-mul-as-sent Inv-loop μ-loop
+mul-as-sent c = search needs
 
-shared-slice-copy-out-sent-of : tie.Need-shared-slice-copy-out-sent-of Inv-loop μ-loop
-shared-slice-copy-out-sent-of c = search needs
+shared-slice-copy-out-as-sent : tie.Need-shared-slice-copy-out-as-sent Inv-loop μ-loop
+shared-slice-copy-out-as-sent c = search needs
 
-sent-of-requires : tie.Need-sent-of-requires Inv-loop μ-loop
-sent-of-requires c κs = search needs
+as-sent-requires : tie.Need-as-sent-requires Inv-loop μ-loop
+as-sent-requires c κs = search needs
 
 add-result : tie.Need-add-result Inv-loop μ-loop
 add-result c = search needs
@@ -38,11 +38,11 @@ returns : tie.Need-returns Inv-loop μ-loop
 returns c =
     let a = c .before .before .before .before .before .before .args in
     let t = a .t .now in
-    let n = length-map t sentOf in
+    let n = length-map t asSent in
     let l = c .before .before .before .before .before .loop in
     let d = c .before .before in
     let told =
-    sent-at t (l .i) (search needs) (record { sfits = d .before .sent-of-arg .given }) (d .sent-of .ensures) in
+    sent-at t (l .i) (search needs) (record { sfits = d .before .as-sent-arg .given }) (d .as-sent .ensures) in
     sought-here (a .value) (sentTemperatures t) (l .i) (omega (arith, n)) (sym told ∙ c .if1 .taken) (l .inv .1)
 
 add-i : tie.Need-add-i Inv-loop μ-loop
@@ -55,11 +55,11 @@ loop-again : tie.Need-loop-again Inv-loop μ-loop
 loop-again c =
     let a = c .before .before .before .before .before .before .args in
     let t = a .t .now in
-    let n = length-map t sentOf in
+    let n = length-map t asSent in
     let l = c .before .before .before .before .before .loop in
     let d = c .before .before in
     let told =
-    sent-at t (l .i) (search needs) (record { sfits = d .before .sent-of-arg .given }) (d .sent-of .ensures) in (
+    sent-at t (l .i) (search needs) (record { sfits = d .before .as-sent-arg .given }) (d .as-sent .ensures) in (
       search needs,
       sought-again (a .value) (sentTemperatures t) (l .i) (omega (arith, n)) (λ e. c .if1 .left (told ∙ e)) (l .inv .1),
     )
@@ -68,7 +68,7 @@ returns-2 : tie.Need-returns-2 Inv-loop μ-loop
 returns-2 c =
     let a = c .before .before .args in
     let t = a .t .now in
-    let n = length-map t sentOf in
+    let n = length-map t asSent in
     let l = c .before .loop in
     sought-none (a .value) (sentTemperatures t) (l .i) (omega (arith, n)) (l .inv .1)
 
@@ -79,9 +79,9 @@ index-of-spec =
     Inv-loop
     μ-loop
     loop-holds
-    mul-sent-of
-    shared-slice-copy-out-sent-of
-    sent-of-requires
+    mul-as-sent
+    shared-slice-copy-out-as-sent
+    as-sent-requires
     add-result
     cast-result
     returns

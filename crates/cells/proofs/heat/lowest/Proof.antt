@@ -4,7 +4,7 @@ use Prim.Native.Nat.{_≤_, _-_}
 use native.Mathlib.Omega.{arith}
 use lib.ListN.{length, length-map}
 use Rattle.cells.specs.Summaries.{lowestOf}
-use Rattle.cells.specs.Sent.{sentOf, sentTemperatures}
+use Rattle.cells.specs.Sent.{asSent, sentTemperatures}
 use Rattle.cells.proofs.SentTemperatures.{sent-at}
 use Rattle.cells.proofs.Walks.{Kept, kept-again, kept-all, lowest-keeps, lowest-begins}
 use borrow.Author.Needs.{needs}
@@ -17,28 +17,28 @@ Inv-loop t low₀ i₀ low i = (i ≤ length t) × Kept lowestOf (sentTemperatur
 abbrev μ-loop : tie.MeasureT-loop
 μ-loop t low₀ i₀ low i = length t - i
 
-shared-slice-copy-out-sent-of : tie.Need-shared-slice-copy-out-sent-of Inv-loop μ-loop
-shared-slice-copy-out-sent-of c = search needs
+shared-slice-copy-out-as-sent : tie.Need-shared-slice-copy-out-as-sent Inv-loop μ-loop
+shared-slice-copy-out-as-sent c = search needs
 
-sent-of-requires : tie.Need-sent-of-requires Inv-loop μ-loop
-sent-of-requires c κs = search needs
+as-sent-requires : tie.Need-as-sent-requires Inv-loop μ-loop
+as-sent-requires c κs = search needs
 
 loop-holds : tie.Need-loop-holds Inv-loop μ-loop
 loop-holds c =
     let t = c .before .before .args .t .now in
-    let n = length-map t sentOf in
+    let n = length-map t asSent in
     let told =
-    sent-at t 0 (search needs) (record { sfits = c .before .sent-of-arg .given }) (c .sent-of .ensures) in
+    sent-at t 0 (search needs) (record { sfits = c .before .as-sent-arg .given }) (c .as-sent .ensures) in
     (search needs, rw told (lowest-begins (sentTemperatures t) (omega (arith, n))))
 
-mul-sent-of : tie.Need-mul-sent-of Inv-loop μ-loop
-mul-sent-of c = search needs
+mul-as-sent : tie.Need-mul-as-sent Inv-loop μ-loop
+mul-as-sent c = search needs
 
-shared-slice-copy-out-sent-of-2 : tie.Need-shared-slice-copy-out-sent-of-2 Inv-loop μ-loop
-shared-slice-copy-out-sent-of-2 c = search needs
+shared-slice-copy-out-as-sent-2 : tie.Need-shared-slice-copy-out-as-sent-2 Inv-loop μ-loop
+shared-slice-copy-out-as-sent-2 c = search needs
 
-sent-of-requires-2 : tie.Need-sent-of-requires-2 Inv-loop μ-loop
-sent-of-requires-2 c κs = search needs
+as-sent-requires-2 : tie.Need-as-sent-requires-2 Inv-loop μ-loop
+as-sent-requires-2 c κs = search needs
 
 lesser-requires : tie.Need-lesser-requires Inv-loop μ-loop
 lesser-requires c κs = search needs
@@ -52,11 +52,11 @@ loop-less c = search needs
 loop-again : tie.Need-loop-again Inv-loop μ-loop
 loop-again c =
     let t = c .before .before .before .before .before .before .before .args .t .now in
-    let n = length-map t sentOf in
+    let n = length-map t asSent in
     let l = c .before .before .before .before .loop in
     let d = c .before in
     let told =
-    sent-at t (l .i) (search needs) (record { sfits = d .before .sent-of-arg2 .given }) (d .sent-of2 .ensures) in (
+    sent-at t (l .i) (search needs) (record { sfits = d .before .as-sent-arg2 .given }) (d .as-sent2 .ensures) in (
       search needs,
       rw (c .lesser .ensures, told)
           (kept-again lowestOf (sentTemperatures t) lowest-keeps (l .i) (l .low) (omega (arith, n)) (l .inv .1)),
@@ -65,7 +65,7 @@ loop-again c =
 returns : tie.Need-returns Inv-loop μ-loop
 returns c =
     let t = c .before .before .before .before .args .t .now in
-    let n = length-map t sentOf in
+    let n = length-map t asSent in
     let l = c .before .loop in
     kept-all lowestOf (sentTemperatures t) lowest-keeps (l .i) (l .low) (omega (arith, n)) (l .inv .1)
 
@@ -75,12 +75,12 @@ lowest-spec =
     (tie.spec
     Inv-loop
     μ-loop
-    shared-slice-copy-out-sent-of
-    sent-of-requires
+    shared-slice-copy-out-as-sent
+    as-sent-requires
     loop-holds
-    mul-sent-of
-    shared-slice-copy-out-sent-of-2
-    sent-of-requires-2
+    mul-as-sent
+    shared-slice-copy-out-as-sent-2
+    as-sent-requires-2
     lesser-requires
     add-i
     loop-less

@@ -1,7 +1,7 @@
 -- `cells::heat::summary` meets its contract: the definition says it in the same steps, and what is sent is
 -- as many as the cells. Assumes nothing.
 use lib.ListN.{length-map}
-use Rattle.cells.specs.Sent.{sentOf}
+use Rattle.cells.specs.Sent.{asSent}
 use borrow.Author.Needs.{needs}
 use Rattle.cells.proofs.heat.summary.Statement.{statement}
 use Rattle.cells.proofs.heat.summary.Tie as tie
@@ -33,7 +33,7 @@ returns c =
       d .sum .ensures,
       d .before .lowest .ensures,
       d .before .before .highest .ensures,
-      length-map (d .before .before .before .args .t .now) sentOf,
+      length-map (d .before .before .before .args .t .now) asSent,
     )
 
 pub summary-spec : {M : Type 1} → statement M

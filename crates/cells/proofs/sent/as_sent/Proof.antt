@@ -1,12 +1,12 @@
--- `cells::sent::sent_of` meets its contract, by the sign. Assumes nothing.
+-- `cells::sent::as_sent` meets its contract, by the sign. Assumes nothing.
 use Rattle.cells.proofs.SentTemperatures.{sent-not-below, sent-below, sent-far-below}
 use mir.Facts.{toZ-ofZ}
 use mathlib.Core.Path.{sym, _∙_}
 use native.Mathlib.Omega.{arith}
 use Rattle.units.proofs.Sign.{not-below-small}
 use borrow.Author.Needs.{needs}
-use Rattle.cells.proofs.sent.sent_of.Statement.{statement}
-use Rattle.cells.proofs.sent.sent_of.Tie as tie
+use Rattle.cells.proofs.sent.as_sent.Statement.{statement}
+use Rattle.cells.proofs.sent.as_sent.Tie as tie
 
 sign-of-requires : tie.Need-sign-of-requires
 sign-of-requires c κs = search needs
@@ -46,8 +46,8 @@ returns-3 c =
     let told = sym (c .before .before .n2 .given .1) ∙ (rw (toZ-ofZ (d .before .fits .t)) at (d .sign-of .ensures)) in
     sent-far-below (d .before .args .t) _ told (c .if1 .left)
 
-pub sent-of-spec : {M : Type 1} → statement M
-sent-of-spec =
+pub as-sent-spec : {M : Type 1} → statement M
+as-sent-spec =
     tie.close
     (tie.spec
     sign-of-requires
