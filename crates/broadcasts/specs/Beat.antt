@@ -15,10 +15,14 @@ dueAt tick = eqb (tick % broadcastEach) 0
 abbrev pub heartbeatAt : ℕ → Bool
 heartbeatAt tick = eqb (tick / broadcastEach % 2) 1
 
+-- two sendings, after which all begins again
+abbrev pub twoSendings : ℕ
+twoSendings = 2 * broadcastEach
+
 -- What is kept of the tick number: 0 of a fresh controller, and after 59, the last tick of two sendings, it is 0 again.
 -- The law `in-step` (proofs/InStep.antt) says that it passes the same tests as the number that grows.
 abbrev pub firstBeat : Beat
 firstBeat = record { tick = 0 }
 
 abbrev pub nextBeat : Beat → Beat
-nextBeat b = record { tick = cond (ltb (b .tick) (2 * broadcastEach - 1)) (b .tick + 1) 0 }
+nextBeat b = record { tick = cond (ltb (b .tick) (twoSendings - 1)) (b .tick + 1) 0 }

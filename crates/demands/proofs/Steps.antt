@@ -20,6 +20,7 @@ use Rattle.charge_messages.specs.Content.{contentOf}
 use Rattle.session_states.specs.declared.states.State.{State}
 use Rattle.session_states.specs.declared.states.State.the-variants.{Idle, Offered, Unverified, Parameters, Ready, Charging, Stopping, Error}
 use Rattle.session.specs.declared.Session.{Session}
+use Rattle.broadcasts.proofs.InStep.{next-kept, broadcasts-kept}
 use Rattle.broadcasts.specs.Sendings.{broadcastAt}
 use Rattle.session_paper_counts.specs.Folds.{folds, foldState}
 use Rattle.session_paper_counts.proofs.InStep.{tick-in-step, frames-in-step}
@@ -79,32 +80,18 @@ by-case c id s (Charges k h p each) =
 pub frame-steps : (c : Controller) (id : ℕ) (s : List ℕ) → codeAnswer (frameTo c id s) ≡ frameTo (codeOf c) id s
 frame-steps c id s = by-case c id s (view (c .settings .own) id s)
 
--- the number of accepted ticks modulo 60 passes the same tests
-next-tick : (n : ℕ) (b : Bool) → ltb (n % 60) 59 ≡ b → (n + 1) % 60 ≡ cond b (n % 60 + 1) 0
-next-tick n true e = omega (arith, ltb-true (n % 60) 59 e)
-next-tick n false e = omega (arith, ltb-false (n % 60) 59 e)
-
-due-folds : (n : ℕ) → n % 60 % 30 ≡ n % 30
-due-folds n = omega arith
-
-heartbeat-folds : (n : ℕ) → n % 60 / 30 % 2 ≡ n / 30 % 2
-heartbeat-folds n = omega arith
-
-broadcast-steps : (n own : ℕ) (versions : Versions) (r : Readings) (c : Cells) → broadcastAt n own versions r c ≡ broadcastAt (n % 60) own versions r c
-broadcast-steps n own versions r c = rw (due-folds n, heartbeat-folds n)
-
 module _ (c : Controller) (r : Readings) (v : List ℕ) (t : List ℤ) where
   -- an accepted tick: the same frames, and the code's next controller stands for the paper's
   pub frames-step : tickFrames c r v t ≡ tickFrames (codeOf c) r v t
   unfolding tickFrames chargeFrames broadcastFrames cellFrames codeOf
   frames-step = rw (
     ← frames-in-step (c .settings) r (cellsOf v t) (c .session),
-    ← broadcast-steps (c .beat .tick) (c .settings .own) (c .settings .versions) r (cellsOf v t),
+    ← broadcasts-kept (c .beat .tick) (c .settings .own) (c .settings .versions) r (cellsOf v t),
   )
 
   pub next-steps : codeOf (paperNext c r v t) ≡ tickNext (codeOf c) r v t
   unfolding paperNext tickNext codeOf
   next-steps = rw (
     tick-in-step (c .settings) r (cellsOf v t) (c .session),
-    next-tick (c .beat .tick) (ltb (c .beat .tick % 60) 59) refl,
+    next-kept (c .beat .tick),
   )

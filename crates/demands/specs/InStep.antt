@@ -5,12 +5,13 @@ use Prim.Native.Nat.{_%_}
 use mathlib.Core.Path.{_≡_}
 use Rattle.session_paper_counts.specs.Folds.{folds}
 use Rattle.controller.specs.declared.Controller.{Controller}
+use Rattle.broadcasts.specs.Beat.{twoSendings}
 use Rattle.controller.specs.With.{withSession, withBeat}
 use Rattle.demands.specs.Machine.{Box, NoController, Using}
 
--- the session's counts folded, the number of accepted ticks modulo 60, settings and waiting queries the same
+-- the session's counts folded, the number of accepted ticks modulo that of two sendings, settings and waiting queries the same
 unfoldable pub codeOf : Controller → Controller
-codeOf c = withBeat (withSession c (folds (c .session))) (record { tick = c .beat .tick % 60 })
+codeOf c = withBeat (withSession c (folds (c .session))) (record { tick = c .beat .tick % twoSendings })
 
 unfoldable pub codeBox : Box → Box
 codeBox NoController = NoController

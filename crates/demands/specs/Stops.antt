@@ -22,7 +22,7 @@ use Rattle.session_states.specs.declared.states.State.the-variants.{Idle, Offer
 use Rattle.session_by_tick.specs.Turns.{cellFull, packFull, currentAbove, estOf, estThen}
 use Rattle.session.specs.declared.Session.{Session}
 use Rattle.session_paper_counts.specs.Literal.{older}
-use Rattle.session_states.specs.Limits.{silenceLimit, closingLimit, driveLimit, restLimit, holdLimit, leastRequest, mostDrives}
+use Rattle.session_states.specs.Limits.{silenceLimit, closingLimit, driveLimit, restLimit, holdLimit, mostDrives}
 
 -- the rule that holds, or that none does
 pub data Why : Type 0 where

@@ -39,7 +39,7 @@ parametersFrames x r station count =
 unfoldable pub chargingFrames : Settings → Readings → Cells → ℕ → ℕ → Phase → List Frame
 chargingFrames x r c station count p = ecrOf x station c p ∷ each5 count (ecsOf x station r c ∷ esmOf x station c ∷ [])
 
--- EST with its two fixed bytes: a tick's turn has fixed them before any frame (`turn-fixes-est`, turns)
+-- EST with its two fixed bytes: a tick's turn has fixed them before any frame (`turn-fixes-est`, session_by_tick)
 unfoldable pub estBytes : Settings → ℕ → Bool → Est → Frame
 estBytes x station acknowledged Awaited = estFrame x station 0 0 acknowledged
 estBytes x station acknowledged (Fixed first second) = estFrame x station first second acknowledged
