@@ -23,20 +23,20 @@ abbrev pub statusByte : Bool → ℕ → ℕ
 statusByte heartbeat one = cond heartbeat (one % 0x80 + 0x80) (one % 0x80)
 
 -- a broadcast's PS stands in its row, so no target is named
-abbrev pub broadcast : Row → ℕ → List ℕ → Frame
-broadcast row own bytes = frameOf row 0 own bytes
+abbrev pub broadcastFrame : Row → ℕ → List ℕ → Frame
+broadcastFrame row own bytes = frameOf row 0 own bytes
 
 -- PS: status one; status two; SOC; cells; current as two's complement; pack voltage
 unfoldable pub psOf : ℕ → Bool → Readings → Cells → Frame
 psOf own heartbeat r c =
-    broadcast PS own
+    broadcastFrame PS own
     (statusByte heartbeat (r .one) ∷ r .two ∷ r .soc ∷ countByte (cellCount (c .volts))
     ∷ (wordBytes (bitsOf (r .current)) ++ wordBytes (r .pack .0)))
 
 -- CVS: average rounded down, highest index, highest, lowest index, lowest
 unfoldable pub cvsOf : ℕ → Cells → Frame
 cvsOf own c =
-    broadcast CVS own
+    broadcastFrame CVS own
     (wordBytes (averageVoltage (c .volts) .0)
     ++ (indexByte (highestVoltageIndex (c .volts)) ∷ wordBytes (highestVoltage (c .volts) .0)
     ++ (indexByte (lowestVoltageIndex (c .volts)) ∷ wordBytes (lowestVoltage (c .volts) .0))))
@@ -44,7 +44,7 @@ cvsOf own c =
 -- CTS: highest index and value, lowest index and value, average of the sent bytes rounded down
 unfoldable pub ctsOf : ℕ → Cells → Frame
 ctsOf own c =
-    broadcast CTS own
+    broadcastFrame CTS own
     (indexByte (highestTemperatureIndex (c .heat)) ∷ temperatureByte (highestTemperature (c .heat) .0)
     ∷ indexByte (lowestTemperatureIndex (c .heat)) ∷ temperatureByte (lowestTemperature (c .heat) .0)
     ∷ temperatureByte (averageTemperature (c .heat) .0) ∷ 0 ∷ 0 ∷ 0 ∷ [])
@@ -52,12 +52,12 @@ ctsOf own c =
 -- FWS: active and latched faults, active and latched warnings
 unfoldable pub fwsOf : ℕ → Readings → Frame
 fwsOf own r =
-    broadcast FWS own
+    broadcastFrame FWS own
     (r .faults .active ∷ r .faults .latched ∷ r .warnings .active ∷ r .warnings .latched ∷ 0 ∷ 0 ∷ 0 ∷ 0 ∷ [])
 
 -- EC: versions
 unfoldable pub ecOf : ℕ → Versions → Frame
-ecOf own v = broadcast EC own (v .first ∷ v .second ∷ v .third ∷ v .fourth ∷ v .fifth ∷ 0 ∷ 0 ∷ 0 ∷ [])
+ecOf own v = broadcastFrame EC own (v .first ∷ v .second ∷ v .third ∷ v .fourth ∷ v .fifth ∷ 0 ∷ 0 ∷ 0 ∷ [])
 
 -- the five of one sending
 abbrev pub broadcastsOf : ℕ → Versions → Bool → Readings → Cells → Broadcasts

@@ -8,7 +8,7 @@ use mathlib.Core.Path.{_≡_, sym, _∙_, ap}
 use mathlib.Core.List.{List, [], _∷_, _++_}
 use lib.ListN.{length, take, drop, set, getD, length-append}
 use lib.Seq.{sets, sets-eq, length-sets, take-suc, length-take-le}
-use Rattle.buffers.specs.Laid.{Laid, laidAt}
+use Rattle.buffers.specs.InnerLaid.{Laid, laidAt}
 
 -- element by element, as a loop stores them
 pub laid-sets : (old : List ℕ) (at : ℕ) (vs : List ℕ) → at + length vs ≤ length old → sets old at vs ≡ laidAt old at vs

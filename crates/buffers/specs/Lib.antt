@@ -1,2 +1,2 @@
 pub mod Words
-pub mod Laid
+pub mod InnerLaid

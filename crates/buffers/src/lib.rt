@@ -3,7 +3,7 @@
 ghost use mathlib.Core.Path.{_≡_};
 ghost use Prim.Native.Nat.{_+_, _≤_, _<_};
 ghost use lib.ListN.{length, getD};
-ghost use Rattle.buffers.specs.Laid.{Laid};
+ghost use Rattle.buffers.specs.InnerLaid.{Laid};
 ghost use Rattle.buffers.specs.Words.{wordAt};
 
 // The byte at a place, and 0 past the end: a reader with nothing to ask of its caller.

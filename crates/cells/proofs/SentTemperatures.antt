@@ -12,7 +12,7 @@ use mir.Facts.{toZ-ofZ}
 use mir.Syntax.{w16}
 use mir.Val.{SFits, toZ, ofZ}
 use Rattle.units.specs.declared.Signed.the-variants.{NotBelow, Below}
-use Rattle.units.specs.Signed.{signedOf}
+use Rattle.units.specs.InnerSigned.{signedOf}
 use Rattle.units.proofs.Sign.{is-not-below, is-below}
 use Rattle.cells.specs.Tables.{temperatureOk}
 use Rattle.cells.specs.Sent.{asSent, sentTemperatures, mostSent}

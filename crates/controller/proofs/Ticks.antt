@@ -8,7 +8,7 @@ use lib.Dec.{eqb}
 use lib.IntN.{ℤ}
 use lib.ListN.{length}
 use borrow.Author.Tests.{ne-eqb}
-use Rattle.frames.specs.Sent.{Sent}
+use Rattle.frames.specs.InnerSent.{Sent}
 use Rattle.frames.specs.Frame.{recordSize}
 use Rattle.frames.proofs.Laws.{sent-start}
 use Rattle.readings.specs.declared.Readings.{Readings}

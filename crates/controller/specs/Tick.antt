@@ -15,7 +15,7 @@ use Rattle.session.specs.Tick.{tickOf, sentOf}
 use Rattle.broadcasts.specs.Beat.{nextBeat}
 use Rattle.broadcasts.specs.Sendings.{broadcastAt}
 use Rattle.queries.specs.Waiting.{waiting, queriesOf}
-use Rattle.queries.specs.Answering.{framesOf, laterOf}
+use Rattle.queries.specs.Answering.{answerFrames, waitingAfter}
 use Rattle.refusals.specs.Tick.{tickNumber}
 use Rattle.controller.specs.declared.Controller.{Controller}
 use Rattle.controller.specs.declared.Ticked.{Ticked}
@@ -32,7 +32,7 @@ module _ (c : Controller) (r : Readings) (v : List ℕ) (t : List ℤ) where
 
   -- then the cell frame, by the oldest waiting query
   unfoldable pub cellFrames : List Frame
-  cellFrames = framesOf (c .settings .own) v t (waiting (c .queries))
+  cellFrames = answerFrames (c .settings .own) v t (waiting (c .queries))
 
   -- all that an accepted tick sends
   unfoldable pub tickFrames : List Frame
@@ -43,7 +43,7 @@ module _ (c : Controller) (r : Readings) (v : List ℕ) (t : List ℤ) where
   tickNext =
       withQueries
       (withBeat (withSession c (tickOf (c .settings) r (cellsOf v t) (c .session))) (nextBeat (c .beat)))
-      (queriesOf (laterOf v t (waiting (c .queries))))
+      (queriesOf (waitingAfter v t (waiting (c .queries))))
 
   -- the tick is accepted
   unfoldable pub accepted : ℕ → Bool

@@ -3,6 +3,7 @@ pub mod Steps
 pub mod Demand2
 pub mod Calls
 pub mod WorkedRows
+pub mod PaperNumbers
 pub mod View
 pub mod Comes
 pub mod Outcomes

@@ -16,7 +16,7 @@ use Rattle.settings.specs.declared.SettingsRead.the-variants as read
 use Rattle.settings.specs.Read.{readOf}
 use Rattle.controller.specs.Start.{freshOf}
 use Rattle.readings.specs.declared.Readings.{Readings}
-use Rattle.readings.specs.Readings.{wantedOf, inRange, currentOk}
+use Rattle.readings.specs.Readings.{wantedOf, readingsInRange, currentOk}
 use Rattle.cells.specs.declared.Cells.{Cells}
 use Rattle.cells.specs.Summaries.{cellsOf}
 use Rattle.cells.specs.Tables.{every}
@@ -347,5 +347,5 @@ quietReadings =
     }
 
 pub such-a-tick : (accepts quietReadings (330 ∷ []) (pos 20 ∷ []) (zeros 117) ≡ true) × (wantedOf quietReadings ≡ true)
-unfolding quietReadings zeros accepts tickNumber inRange wantedOf currentOk every
+unfolding quietReadings zeros accepts tickNumber readingsInRange wantedOf currentOk every
 such-a-tick = (refl, refl)

@@ -2,6 +2,7 @@ pub mod Machine
 pub mod InStep
 pub mod Calls
 pub mod WorkedRows
+pub mod PaperNumbers
 pub mod Events
 pub mod Says
 pub mod Ends

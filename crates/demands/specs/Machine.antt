@@ -13,9 +13,9 @@ use Rattle.frames.specs.Frame.{recordSize, recordsOf}
 use Rattle.readings.specs.declared.Readings.{Readings}
 use Rattle.cells.specs.Summaries.{cellsOf}
 use Rattle.settings.specs.Read.{recordNumber}
-use Rattle.settings.specs.Write.{writtenOf, laterOf}
+use Rattle.settings.specs.Write.{writtenOf, bufferAfter}
 use Rattle.queries.specs.Waiting.{waiting, queriesOf}
-use Rattle.queries.specs.Answering as answering
+use Rattle.queries.specs.Answering.{waitingAfter}
 use Rattle.session_paper_counts.specs.Literal.{literalTick}
 use Rattle.controller.specs.declared.Controller.{Controller}
 use Rattle.controller.specs.declared.Start.{Start}
@@ -50,7 +50,7 @@ unfoldable pub paperNext : Controller → Readings → List ℕ → List ℤ →
 paperNext c r v t =
     withQueries
     (withBeat (withSession c (literalTick (c .settings) r (cellsOf v t) (c .session))) (record { tick = c .beat .tick + 1 }))
-    (queriesOf (answering.laterOf v t (waiting (c .queries))))
+    (queriesOf (waitingAfter v t (waiting (c .queries))))
 
 -- a settings record that is refused yields no controller: the one in use stays
 unfoldable pub started : Start → Box → Box
@@ -79,7 +79,7 @@ module _ (next : Controller → Readings → List ℕ → List ℤ → Controlle
       (Gave (tickNumber r v t (length old)) 0 [] old)
   seenOf NoController (Write old) = Nothing
   seenOf (Using c) (Write old) =
-      Gave (writtenOf (c .settings) old .number) (writtenOf (c .settings) old .bytes) [] (laterOf (c .settings) old)
+      Gave (writtenOf (c .settings) old .number) (writtenOf (c .settings) old .bytes) [] (bufferAfter (c .settings) old)
 
   -- a run: all that is seen, and the box that is left
   unfoldable pub run : Box → List Call → List Seen
@@ -90,7 +90,7 @@ module _ (next : Controller → Readings → List ℕ → List ℤ → Controlle
   boxAt b [] = b
   boxAt b (k ∷ ks) = boxAt (boxAfter b k) ks
 
--- the number that a call gave, and the frames that it sent; where there was nothing to call, none
+-- the number that a call gave, and the frames that it sent; where there was nothing to call, 0 and none
 unfoldable pub numberSeen : Seen → ℕ
 numberSeen Nothing = 0
 numberSeen (Gave n bytes frames later) = n

@@ -1,6 +1,6 @@
 -- A frame, identifier and data, by which a source says a charge message: none of the checks 3 to 8 refuses it, and its
 -- content is allowed, so 10 does not either (01, "Numbers returned"). Whether the source may say it, 9, and whether it
--- is in step, 11, is the controller's part. For every statement in which a station says something:
+-- is in step, 11, is the controller's part. For every statement in which a station says something, such as
 -- `what-ends-a-session`, `what-ends-a-charge`, `over`, `within-801`, `reaches-charging`.
 use Prim.Native.Nat.{ℕ}
 use mathlib.Core.Path.{_≡_}
@@ -17,7 +17,7 @@ use Rattle.charge_messages.specs.declared.Content.the-variants.{Allowed}
 use Rattle.charge_messages.specs.Content.{contentOf}
 use Rattle.refusals.specs.Frame.{messageIn}
 
--- the row of the table that a message has
+-- which of the seven a message is
 abbrev pub chargeOf : ChargeMessage → Charge
 chargeOf Cim = charge.Cim
 chargeOf (Cvm b) = charge.Cvm

@@ -1,10 +1,10 @@
 -- "Exactly which tick ends or stops a session, and why": what a tick makes of each state, by the first of the paper's
 -- rules that holds (01, "Session by tick"). For `what-a-tick-does`, `what-a-refused-tick-does` and
 -- `what-a-tick-does-in-idle`, and for `which-tick-ends-a-session` and `which-tick-ends-a-charge`.
-use Prim.Native.Nat.{ℕ, _/_}
+use Prim.Native.Nat.{ℕ}
 use mathlib.Core.Path.{_≡_}
 use mathlib.Core.Bool.{Bool, true, false, cond, _&&_, _||_}
-use lib.Dec.{leb, ltb}
+use lib.Dec.{leb}
 use Rattle.units.specs.Units.{halvedAmps}
 use Rattle.settings.specs.declared.Settings.{Settings}
 use Rattle.readings.specs.declared.Readings.{Readings}

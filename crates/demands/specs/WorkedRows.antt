@@ -25,7 +25,7 @@ use Rattle.session_frames.specs.Layouts.{holdVoltage, ecrFrame, ecrOf, eimOf, e
 use Rattle.broadcasts.specs.Layouts.{psOf}
 use Rattle.queries.specs.declared.Kind.the-variants.{Voltages, Temperatures}
 use Rattle.queries.specs.declared.Query.{Query}
-use Rattle.queries.specs.Answering.{rowOf, groupFrame, pastEnd, atLast}
+use Rattle.queries.specs.Answering.{groupRow, groupFrame, pastEnd, atLast}
 use Rattle.session_states.specs.Limits.{restLimit}
 
 -- so many tenths of an ampere, and a current word of a CMP
@@ -91,10 +91,10 @@ pub record WorkedRows : Type 0 where
       ≡ frameOf (toTarget 0x32 7) source own (0x00 ∷ 0x00 ∷ 0x00 ∷ 0x00 ∷ 0x4c ∷ 0x01 ∷ 0x4b ∷ 0x01 ∷ [])
   -- 255 cells end at PF 70 and A0: the group that is sent last has that PF, and there is one
   pub voltages-end : (v : List ℕ) (t : List ℤ) (source group : ℕ) → length v ≡ 255
-      → pastEnd v t (voltagesAt source group) ≡ false → atLast v t (voltagesAt source group) ≡ true → pfOf (rowOf Voltages group) ≡ 0x70
+      → pastEnd v t (voltagesAt source group) ≡ false → atLast v t (voltagesAt source group) ≡ true → pfOf (groupRow Voltages group) ≡ 0x70
   pub voltages-sent : (v : List ℕ) (t : List ℤ) (source : ℕ) → length v ≡ 255
       → (pastEnd v t (voltagesAt source 63) ≡ false) × (atLast v t (voltagesAt source 63) ≡ true)
   pub temperatures-end : (v : List ℕ) (t : List ℤ) (source group : ℕ) → length t ≡ 255
-      → pastEnd v t (temperaturesAt source group) ≡ false → atLast v t (temperaturesAt source group) ≡ true → pfOf (rowOf Temperatures group) ≡ 0xa0
+      → pastEnd v t (temperaturesAt source group) ≡ false → atLast v t (temperaturesAt source group) ≡ true → pfOf (groupRow Temperatures group) ≡ 0xa0
   pub temperatures-sent : (v : List ℕ) (t : List ℤ) (source : ℕ) → length t ≡ 255
       → (pastEnd v t (temperaturesAt source 31) ≡ false) × (atLast v t (temperaturesAt source 31) ≡ true)

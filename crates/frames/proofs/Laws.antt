@@ -5,33 +5,33 @@ use native.Mathlib.Omega.{arith}
 use mathlib.Core.Path.{_≡_, refl, sym, _∙_, ap}
 use mathlib.Core.List.{List, [], _∷_, _++_, append-assoc, append-nil}
 use lib.ListN.{length, drop, length-append}
-use Rattle.buffers.specs.Laid.{Laid}
+use Rattle.buffers.specs.InnerLaid.{Laid}
 use Rattle.buffers.proofs.Laws.{laid-none, laid-then, laid-eq, laid-length, laid-start}
 use Rattle.frames.specs.declared.Frame.{Frame}
-use Rattle.frames.specs.Frame.{recordSize, recordOf, recordsOf}
-use Rattle.frames.specs.Sent.{Sent}
+use Rattle.frames.specs.Frame.{recordSize, frameRecord, recordsOf}
+use Rattle.frames.specs.InnerSent.{Sent}
 
 -- every record has one size
-pub length-record : (f : Frame) → length (recordOf f) ≡ recordSize
-unfolding recordOf
+pub length-record : (f : Frame) → length (frameRecord f) ≡ recordSize
+unfolding frameRecord
 length-record f = refl
 
 pub length-records : (fs : List Frame) → length (recordsOf fs) ≡ recordSize * length fs
 unfolding recordsOf
 length-records [] = refl
 length-records (f ∷ fs) =
-    omega (arith, length-append (recordOf f) (recordsOf fs), length-record f, length-records fs)
+    omega (arith, length-append (frameRecord f) (recordsOf fs), length-record f, length-records fs)
 
 pub records-append : (fs gs : List Frame) → recordsOf (fs ++ gs) ≡ recordsOf fs ++ recordsOf gs
 unfolding recordsOf
 records-append [] gs = refl
 records-append (f ∷ fs) gs =
-    ap (λ (t : List ℕ). recordOf f ++ t) (records-append fs gs)
-    ∙ sym (append-assoc (recordOf f) (recordsOf fs) (recordsOf gs))
+    ap (λ (t : List ℕ). frameRecord f ++ t) (records-append fs gs)
+    ∙ sym (append-assoc (frameRecord f) (recordsOf fs) (recordsOf gs))
 
-records-one : (f : Frame) → recordOf f ≡ recordsOf (f ∷ [])
+records-one : (f : Frame) → frameRecord f ≡ recordsOf (f ∷ [])
 unfolding recordsOf
-records-one f = sym (append-nil (recordOf f))
+records-one f = sym (append-nil (frameRecord f))
 
 -- no frame
 pub sent-none : (old : List ℕ) (at : ℕ) → at ≤ length old → Sent 0 old old at at []
@@ -40,7 +40,7 @@ sent-none old at h = record { count = omega arith; past = omega arith; laid = la
 
 -- one frame, laid as its record
 pub sent-one :
-    {old new : List ℕ} {at next : ℕ} (f : Frame) → Laid old new at next (recordOf f) → Sent 1 old new at next (f ∷ [])
+    {old new : List ℕ} {at next : ℕ} (f : Frame) → Laid old new at next (frameRecord f) → Sent 1 old new at next (f ∷ [])
 sent-one {old} {new} {at} {next} f a =
     record { count = omega arith; past = omega (arith, a .past, length-record f); laid = laid-eq a (records-one f) }
 

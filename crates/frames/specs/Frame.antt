@@ -26,10 +26,10 @@ abbrev pub eightOf : List ℕ → List ℕ
 eightOf l =
     getD l 0 0 ∷ getD l 1 0 ∷ getD l 2 0 ∷ getD l 3 0 ∷ getD l 4 0 ∷ getD l 5 0 ∷ getD l 6 0 ∷ getD l 7 0 ∷ []
 
-unfoldable pub recordOf : Frame → List ℕ
-recordOf f = fourBytes (f .id) ++ (f .length ∷ eightOf (f .bytes))
+unfoldable pub frameRecord : Frame → List ℕ
+frameRecord f = fourBytes (f .id) ++ (f .length ∷ eightOf (f .bytes))
 
 -- the records of several frames, one after the other
 unfoldable pub recordsOf : List Frame → List ℕ
 recordsOf [] = []
-recordsOf (f ∷ fs) = recordOf f ++ recordsOf fs
+recordsOf (f ∷ fs) = frameRecord f ++ recordsOf fs

@@ -6,8 +6,8 @@ ghost use mathlib.Core.Bool.{cond};
 ghost use mathlib.Core.List.{[], _∷_};
 ghost use Prim.Native.Nat.{_+_, _≤_};
 ghost use lib.ListN.{length};
-ghost use Rattle.frames.specs.Frame.{recordSize, frameOf, recordOf};
-ghost use Rattle.frames.specs.Sent.{Sent};
+ghost use Rattle.frames.specs.Frame.{recordSize, frameOf, frameRecord};
+ghost use Rattle.frames.specs.InnerSent.{Sent};
 use messages::identifier;
 use messages::table::Row;
 
@@ -37,7 +37,7 @@ impl Frame {
 
     // Identifier in 4 bytes little endian, the length (8 in every row that we send), the data.
     pub fn record(self) -> [u8; Self::RECORD]
-        ensures { λ r. ⌜ r ≡ recordOf self ⌝ }
+        ensures { λ r. ⌜ r ≡ frameRecord self ⌝ }
     {
         let id = self.id;
         let n = self.length;

@@ -34,8 +34,8 @@ numberOf p =
 abbrev pub firstBroadcast : ℕ
 firstBroadcast = 240
 
-abbrev pub psOf : Row → ℕ → ℕ
-psOf row target = cond (ltb (pfOf row) firstBroadcast) target (broadcastPs row)
+abbrev pub psPart : Row → ℕ → ℕ
+psPart row target = cond (ltb (pfOf row) firstBroadcast) target (broadcastPs row)
 
 -- the identifier of a message that we send: reserved and data page are clear
 abbrev pub identifierOf : Row → ℕ → ℕ → ℕ
@@ -46,6 +46,6 @@ identifierOf row target source =
       reserved = 0;
       page = 0;
       pf = pfOf row;
-      ps = psOf row target;
+      ps = psPart row target;
       source = source;
     })

@@ -57,7 +57,7 @@ firstWith pf (m ∷ ms) = cond (eqb pf (pfOf (rowOf m))) (As m) (firstWith pf ms
 abbrev pub recognizedOf : ℕ → Recognized
 recognizedOf pf = firstWith pf nine
 
--- the paper's number for each case of the answer; 0 where no check on the PF refuses
+-- the paper's number for each case of the answer; 0 where no check refuses
 abbrev pub recognizedNumber : Recognized → ℕ
 recognizedNumber (As m) = 0
 recognizedNumber (Refused n) = n

@@ -1,6 +1,6 @@
 // The 29-bit identifier and its parts (01, "Identifier and message numbers").
 ghost use mathlib.Core.Path.{_≡_};
-ghost use Rattle.messages.specs.Identifier.{partsOf, numberOf, psOf, identifierOf};
+ghost use Rattle.messages.specs.Identifier.{partsOf, numberOf, psPart, identifierOf};
 use crate::table::Row;
 
 pub struct Identifier {
@@ -45,7 +45,7 @@ pub const FIRST_BROADCAST: u8 = 240;
 
 // PS is the target of a targeted message, and else the row's own.
 fn ps_of(row: Row, target: u8) -> u8
-    ensures { λ r. ⌜ r ≡ psOf row target ⌝ }
+    ensures { λ r. ⌜ r ≡ psPart row target ⌝ }
 {
     if row.pf() < FIRST_BROADCAST {
         target

@@ -28,7 +28,7 @@ pub enum Message {
     Query(Query),
 }
 
-// A received PF: the message it is, or the number of the refusal.
+// The message that something received is, or the number of the refusal.
 pub enum Recognized {
     As(Message),
     Refused(u8),

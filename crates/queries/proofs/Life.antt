@@ -12,18 +12,18 @@ use Rattle.queries.specs.declared.Kind.{Kind}
 use Rattle.queries.specs.declared.Kind.the-variants.{Voltages, Temperatures}
 use Rattle.queries.specs.declared.Query.{Query}
 use Rattle.queries.specs.Asking.{freshQuery}
-use Rattle.queries.specs.Answering.{perGroup, groupFrame, tableLength, pastEnd, atLast, nextGroup, framesOf}
-use Rattle.queries.specs.Answering.{laterOf}
+use Rattle.queries.specs.Answering.{perGroup, groupFrame, tableLength, pastEnd, atLast, nextGroup, answerFrames}
+use Rattle.queries.specs.Answering.{waitingAfter}
 
 module _ (own : ℕ) (v : List ℕ) (t : List ℤ) where
   -- who waits after so many ticks, and all that they sent
   unfoldable pub waitAfter : ℕ → List Query → List Query
   waitAfter zero l = l
-  waitAfter (suc ticks) l = waitAfter ticks (laterOf v t l)
+  waitAfter (suc ticks) l = waitAfter ticks (waitingAfter v t l)
 
   unfoldable pub sentIn : ℕ → List Query → List Frame
   sentIn zero l = []
-  sentIn (suc ticks) l = framesOf own v t l ++ sentIn ticks (laterOf v t l)
+  sentIn (suc ticks) l = answerFrames own v t l ++ sentIn ticks (waitingAfter v t l)
 
   -- so many groups in a row, from the one that the query is at
   unfoldable pub groupsFrom : ℕ → Query → List Frame
@@ -82,7 +82,7 @@ module _ (own : ℕ) (v : List ℕ) (t : List ℤ) where
 
   -- all its groups are sent
   pub sent-whole : (k : ℕ) (q : Query) (qs : List Query) → Left k q → sentIn (suc k) (q ∷ qs) ≡ groupsFrom (suc k) q
-  unfolding sentIn groupsFrom framesOf laterOf
+  unfolding sentIn groupsFrom answerFrames waitingAfter
   sent-whole zero q qs l = rw (within 0 q l)
   sent-whole (suc k) q qs l =
       rw (within (suc k) q l, goes-on k q l)
@@ -90,7 +90,7 @@ module _ (own : ℕ) (v : List ℕ) (t : List ℤ) where
 
   -- and then it is gone
   pub gone-after : (k : ℕ) (q : Query) (qs : List Query) → Left k q → waitAfter (suc k) (q ∷ qs) ≡ qs
-  unfolding waitAfter laterOf
+  unfolding waitAfter waitingAfter
   gone-after zero q qs l = rw (within 0 q l, leaves q l)
   gone-after (suc k) q qs l = rw (within (suc k) q l, goes-on k q l) (gone-after k (nextGroup q) qs (on k q l))
 

@@ -16,7 +16,7 @@ use Rattle.queries.specs.declared.Queries.{Queries}
 use Rattle.queries.specs.declared.Answered.{Answered}
 use Rattle.queries.specs.Waiting.{mostWaiting, waiting, queriesOf}
 use Rattle.queries.specs.Asking.{someAsks, askNumber, freshQuery, queuedOf}
-use Rattle.queries.specs.Answering.{pastEnd, atLast, nextGroup, laterOf, Answers}
+use Rattle.queries.specs.Answering.{pastEnd, atLast, nextGroup, waitingAfter, Answers}
 
 -- never more than four wait
 four-at-most : (a b c d : Query) (n : ℕ) → length (take n (a ∷ b ∷ c ∷ d ∷ [])) ≤ mostWaiting
@@ -78,15 +78,15 @@ shorter q qs true b = omega arith
 shorter q qs false true = omega arith
 shorter q qs false false = omega arith
 
-pub later-at-most : (v : List ℕ) (t : List ℤ) (l : List Query) → length (laterOf v t l) ≤ length l
-unfolding laterOf
+pub later-at-most : (v : List ℕ) (t : List ℤ) (l : List Query) → length (waitingAfter v t l) ≤ length l
+unfolding waitingAfter
 later-at-most v t [] = omega arith
 later-at-most v t (q ∷ qs) = shorter q qs (pastEnd v t q) (atLast v t q)
 
 pub answers-waiting :
     (q : Queries) (own : ℕ) (v : List ℕ) (t : List ℤ) (r : Answered)
     → Answers q own v t r
-    → waiting (r .queries) ≡ laterOf v t (waiting q)
+    → waiting (r .queries) ≡ waitingAfter v t (waiting q)
 answers-waiting q own v t r h =
     ap waiting (h .later)
-    ∙ waiting-held (laterOf v t (waiting q)) (omega (arith, later-at-most v t (waiting q), waiting-at-most q))
+    ∙ waiting-held (waitingAfter v t (waiting q)) (omega (arith, later-at-most v t (waiting q), waiting-at-most q))

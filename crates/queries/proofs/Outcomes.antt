@@ -18,8 +18,8 @@ use Rattle.queries.specs.declared.Queries.{Queries}
 use Rattle.queries.specs.declared.Answered.{Answered}
 use Rattle.queries.specs.Waiting.{mostWaiting, waiting, queriesOf}
 use Rattle.queries.specs.Asking.{someAsks, askNumber, freshQuery, queuedOf}
-use Rattle.queries.specs.Answering.{perGroup, groupFrame, tableLength, pastEnd, atLast, nextGroup, framesOf}
-use Rattle.queries.specs.Answering.{laterOf, Answers}
+use Rattle.queries.specs.Answering.{perGroup, groupFrame, tableLength, pastEnd, atLast, nextGroup, answerFrames}
+use Rattle.queries.specs.Answering.{waitingAfter, Answers}
 use Rattle.queries.proofs.Four.{four-wait, oldest-first}
 
 -- how many wait, as the count says it
@@ -80,32 +80,32 @@ unfolding waiting
 none-wait q h = rw h
 
 module _ (own : ℕ) (v : List ℕ) (t : List ℤ) (q : Query) (l qs : List Query) (w : l ≡ q ∷ qs) where
-  past-later : pastEnd v t q ≡ true → laterOf v t l ≡ qs
-  unfolding laterOf
+  past-later : pastEnd v t q ≡ true → waitingAfter v t l ≡ qs
+  unfolding waitingAfter
   past-later h = rw (w, h)
 
-  last-later : pastEnd v t q ≡ false → atLast v t q ≡ true → laterOf v t l ≡ qs
-  unfolding laterOf
+  last-later : pastEnd v t q ≡ false → atLast v t q ≡ true → waitingAfter v t l ≡ qs
+  unfolding waitingAfter
   last-later h k = rw (w, h, k)
 
-  more-later : pastEnd v t q ≡ false → atLast v t q ≡ false → laterOf v t l ≡ nextGroup q ∷ qs
-  unfolding laterOf
+  more-later : pastEnd v t q ≡ false → atLast v t q ≡ false → waitingAfter v t l ≡ nextGroup q ∷ qs
+  unfolding waitingAfter
   more-later h k = rw (w, h, k)
 
-  past-frames : pastEnd v t q ≡ true → framesOf own v t l ≡ []
-  unfolding framesOf
+  past-frames : pastEnd v t q ≡ true → answerFrames own v t l ≡ []
+  unfolding answerFrames
   past-frames h = rw (w, h)
 
-  group-frames : pastEnd v t q ≡ false → framesOf own v t l ≡ groupFrame own v t q ∷ []
-  unfolding framesOf
+  group-frames : pastEnd v t q ≡ false → answerFrames own v t l ≡ groupFrame own v t q ∷ []
+  unfolding answerFrames
   group-frames h = rw (w, h)
 
-none-later : (v : List ℕ) (t : List ℤ) (l : List Query) → l ≡ [] → laterOf v t l ≡ []
-unfolding laterOf
+none-later : (v : List ℕ) (t : List ℤ) (l : List Query) → l ≡ [] → waitingAfter v t l ≡ []
+unfolding waitingAfter
 none-later v t l w = rw w
 
-none-frames : (own : ℕ) (v : List ℕ) (t : List ℤ) (l : List Query) → l ≡ [] → framesOf own v t l ≡ []
-unfolding framesOf
+none-frames : (own : ℕ) (v : List ℕ) (t : List ℤ) (l : List Query) → l ≡ [] → answerFrames own v t l ≡ []
+unfolding answerFrames
 none-frames own v t l w = rw w
 
 module _ (q : Queries) (own : ℕ) (v : List ℕ) (t : List ℤ) where
@@ -134,7 +134,7 @@ module _ (q : Queries) (own : ℕ) (v : List ℕ) (t : List ℤ) where
 
     module _ (h : pastEnd v t (q .first) ≡ false) (s : Queries) (g : Frame)
         (i : g ≡ groupFrame own v t (q .first)) where
-      sends : cond true (g ∷ []) [] ≡ framesOf own v t (waiting q)
+      sends : cond true (g ∷ []) [] ≡ answerFrames own v t (waiting q)
       sends =
           ap (λ (x : Frame). x ∷ []) i
           ∙ sym (group-frames own v t (q .first) (waiting q) (drop 1 (waiting q)) (oldest q some) h)

@@ -11,7 +11,7 @@ use Rattle.messages.specs.Table.{pfOf, toTarget}
 use Rattle.frames.specs.Frame.{frameOf}
 use Rattle.queries.specs.declared.Kind.the-variants.{Voltages, Temperatures}
 use Rattle.queries.specs.declared.Query.{Query}
-use Rattle.queries.specs.Answering.{rowOf, groupBytes, groupFrame, pastEnd, atLast}
+use Rattle.queries.specs.Answering.{groupRow, groupBytes, groupFrame, pastEnd, atLast}
 
 -- cells 1 to 6, with 331 and 332 last: group PF 32 is 00 00 00 00 4C 01 4B 01, priority 7, to the source of the query
 pub group-32 :
@@ -30,14 +30,14 @@ module _ (v : List ℕ) (t : List ℤ) (source group : ℕ) where
   temperatures = record { source = source; kind = Temperatures; group = group }
 
   pub voltages-end :
-      length v ≡ 255 → pastEnd v t voltages ≡ false → atLast v t voltages ≡ true → pfOf (rowOf Voltages group) ≡ 0x70
+      length v ≡ 255 → pastEnd v t voltages ≡ false → atLast v t voltages ≡ true → pfOf (groupRow Voltages group) ≡ 0x70
   unfolding pastEnd atLast
   voltages-end n p l =
       omega (arith, leb-false (length v) (group * 4) p, leb-true (length v) ((group + 1) * 4) l)
 
   pub temperatures-end :
       length t ≡ 255 → pastEnd v t temperatures ≡ false → atLast v t temperatures ≡ true
-      → pfOf (rowOf Temperatures group) ≡ 0xa0
+      → pfOf (groupRow Temperatures group) ≡ 0xa0
   unfolding pastEnd atLast
   temperatures-end n p l =
       omega (arith, leb-false (length t) (group * 8) p, leb-true (length t) ((group + 1) * 8) l)

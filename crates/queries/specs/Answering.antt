@@ -33,8 +33,8 @@ abbrev pub rowAfter : Row → ℕ → Row
 rowAfter row group =
     record { 0 = pfOf row + group; 1 = priorityOf row; 2 = lengthOf row; 3 = broadcastPs row }
 
-abbrev pub rowOf : Kind → ℕ → Row
-rowOf kind group = rowAfter (firstRow kind) group
+abbrev pub groupRow : Kind → ℕ → Row
+groupRow kind group = rowAfter (firstRow kind) group
 
 unfoldable pub groupBytes : Kind → List ℕ → List ℤ → ℕ → List ℕ
 groupBytes Voltages v t group = voltageGroup v group
@@ -42,7 +42,7 @@ groupBytes Temperatures v t group = temperatureGroup t group
 
 -- the frame of the group that the query is at, to its source
 unfoldable pub groupFrame : ℕ → List ℕ → List ℤ → Query → Frame
-groupFrame own v t q = frameOf (rowOf (q .kind) (q .group)) (q .source) own (groupBytes (q .kind) v t (q .group))
+groupFrame own v t q = frameOf (groupRow (q .kind) (q .group)) (q .source) own (groupBytes (q .kind) v t (q .group))
 
 -- how many cells the query's table holds
 abbrev pub tableLength : Kind → List ℕ → List ℤ → ℕ
@@ -61,17 +61,17 @@ abbrev pub nextGroup : Query → Query
 nextGroup q = record { source = q .source; kind = q .kind; group = q .group + 1 }
 
 -- what the tick sends: none where none waits, and none where the next group begins past the table
-unfoldable pub framesOf : ℕ → List ℕ → List ℤ → List Query → List Frame
-framesOf own v t [] = []
-framesOf own v t (q ∷ qs) = cond (pastEnd v t q) [] (groupFrame own v t q ∷ [])
+unfoldable pub answerFrames : ℕ → List ℕ → List ℤ → List Query → List Frame
+answerFrames own v t [] = []
+answerFrames own v t (q ∷ qs) = cond (pastEnd v t q) [] (groupFrame own v t q ∷ [])
 
 -- who waits then: the oldest leaves where its next group begins past the table, "it leaves with its last group", and
 -- else it stays the oldest
-unfoldable pub laterOf : List ℕ → List ℤ → List Query → List Query
-laterOf v t [] = []
-laterOf v t (q ∷ qs) = cond (pastEnd v t q) qs (cond (atLast v t q) qs (nextGroup q ∷ qs))
+unfoldable pub waitingAfter : List ℕ → List ℤ → List Query → List Query
+waitingAfter v t [] = []
+waitingAfter v t (q ∷ qs) = cond (pastEnd v t q) qs (cond (atLast v t q) qs (nextGroup q ∷ qs))
 
 -- a tick's whole outcome: who waits then, and the frame where one is due
 pub record Answers (q : Queries) (own : ℕ) (v : List ℕ) (t : List ℤ) (r : Answered) : Type 0 where
-  pub later : r .queries ≡ queriesOf (laterOf v t (waiting q))
-  pub frames : cond (r .due) (r .frame ∷ []) [] ≡ framesOf own v t (waiting q)
+  pub later : r .queries ≡ queriesOf (waitingAfter v t (waiting q))
+  pub frames : cond (r .due) (r .frame ∷ []) [] ≡ answerFrames own v t (waiting q)

@@ -5,7 +5,7 @@ ghost use mathlib.Core.Bool.{true, false};
 ghost use Prim.Native.Nat.{_+_, _*_, _≤_, _<_};
 ghost use Rattle.messages.specs.Table.{pfOf};
 ghost use Rattle.cells.specs.Tables.{mostCells, tablesFit};
-ghost use Rattle.queries.specs.Answering.{perGroup, rowAfter, rowOf, groupFrame, Answers};
+ghost use Rattle.queries.specs.Answering.{perGroup, rowAfter, groupRow, groupFrame, Answers};
 use crate::Answered;
 use crate::Kind;
 use crate::Queries;
@@ -37,7 +37,7 @@ fn row_after(row: Row, group: u8) -> Row
 // The row of a group that begins within a table.
 fn row_of(kind: Kind, group: u8) -> Row
     requires { ⌜ group * perGroup kind < mostCells ⌝ }
-    ensures { λ r. ⌜ r ≡ rowOf kind group ⌝ }
+    ensures { λ r. ⌜ r ≡ groupRow kind group ⌝ }
 {
     match kind {
         Kind::Voltages => row_after(table::row_at(table::VOLTAGES), group),

@@ -9,7 +9,7 @@ use lib.Dec.{leb, ltb}
 use lib.IntN.{ℤ, pos, negsuc, natAbs, _-ℤ_}
 use Rattle.units.specs.declared.TenthAmps.{TenthAmps}
 use Rattle.units.specs.declared.Signed.the-variants.{NotBelow, Below}
-use Rattle.units.specs.Signed.{signedOf}
+use Rattle.units.specs.InnerSigned.{signedOf}
 use Rattle.units.proofs.Sign.{is-not-below, is-below}
 use Rattle.readings.specs.Readings.{currentOk, rawOf, aboveOf, bitsOf}
 

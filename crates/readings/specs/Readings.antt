@@ -13,8 +13,8 @@ unfoldable pub currentOk : ℤ → Bool
 currentOk c = leZ (negsuc 19999) c && leZ c (pos 4000)
 
 -- status byte one 0 to 127, SOC 0 to 100, and the current; every other reading may be any
-unfoldable pub inRange : Readings → Bool
-inRange r = leb (r .one) 127 && (leb (r .soc) 100 && currentOk (r .current))
+unfoldable pub readingsInRange : Readings → Bool
+readingsInRange r = leb (r .one) 127 && (leb (r .soc) 100 && currentOk (r .current))
 
 -- charge is wanted when status byte two has 80 hex set and 20 hex clear, and active faults has none of bits 8 to 2
 -- (mask FE)

@@ -1,7 +1,7 @@
 // The pack's readings that a tick lends: their ranges (01, "Readings", number 15), whether charge is wanted, and how a
 // current is compared and sent. This crate may not know cells, frames or sessions.
 ghost use mathlib.Core.Path.{_≡_};
-ghost use Rattle.readings.specs.Readings.{inRange, wantedOf, aboveOf, rawOf, bitsOf, currentOk};
+ghost use Rattle.readings.specs.Readings.{readingsInRange, wantedOf, aboveOf, rawOf, bitsOf, currentOk};
 use units::RawAmps;
 use units::Signed;
 use units::TenthAmps;
@@ -67,7 +67,7 @@ fn bits(c: i16) -> u16
 
 impl Readings {
     pub fn in_range(self) -> bool
-        ensures { λ r. ⌜ r ≡ inRange self ⌝ }
+        ensures { λ r. ⌜ r ≡ readingsInRange self ⌝ }
     {
         let current = current_ok(self.current);
         (self.one <= 127) & ((self.soc <= 100) & current)

@@ -1,2 +1,3 @@
 pub mod Fine
 pub mod Listed
+pub mod Numbers

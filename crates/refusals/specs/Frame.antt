@@ -44,6 +44,17 @@ messageIn own id s =
     (cond (notForUs own (partsOf id)) (Refused 5)
     (cond (badSource own (partsOf id)) (Refused 6) (longEnough s (recognizedOf (partsOf id .pf))))))
 
+-- the number by which 3 to 8 refuse a frame, the first of them that does; 0 where none does
+abbrev pub knownNumber : List ℕ → Recognized → ℕ
+knownNumber s (As m) = cond (ltb (length s) (leastLength m)) 8 0
+knownNumber s (Refused n) = n
+
+unfoldable pub frameNumber : ℕ → ℕ → List ℕ → ℕ
+frameNumber own id s =
+    cond (notCan id s) 3
+    (cond (flagsSet (partsOf id)) 4
+    (cond (notForUs own (partsOf id)) 5 (cond (badSource own (partsOf id)) 6 (knownNumber s (recognizedOf (partsOf id .pf))))))
+
 -- 9: Idle: source not in the list; else: not the session's station
 unfoldable pub listed : ℕ → Stations → Bool
 listed source s = not (lacks source (stationList s))

@@ -6,7 +6,7 @@ use lib.Dec.{ltb}
 use lib.IntN.{ℤ}
 use Rattle.frames.specs.Frame.{recordSize}
 use Rattle.readings.specs.declared.Readings.{Readings}
-use Rattle.readings.specs.Readings.{inRange}
+use Rattle.readings.specs.Readings.{readingsInRange}
 use Rattle.cells.specs.Tables.{tablesFit, cellsInRange}
 
 -- "buffer under 117 bytes (nine frames)": three to the station, five broadcasts and one of cells, a record each
@@ -20,4 +20,4 @@ tickRoom = mostFrames * recordSize
 -- taken
 unfoldable pub tickNumber : Readings → List ℕ → List ℤ → ℕ → ℕ
 tickNumber r v t room =
-    cond (tablesFit v t) (cond (inRange r && cellsInRange v t) (cond (ltb room tickRoom) 16 0) 15) 14
+    cond (tablesFit v t) (cond (readingsInRange r && cellsInRange v t) (cond (ltb room tickRoom) 16 0) 15) 14

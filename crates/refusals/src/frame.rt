@@ -1,6 +1,7 @@
 // The checks of a received frame (01, "Numbers returned"): 3 to 8, which ask for nothing but our own address, and 9.
 ghost use mathlib.Core.Path.{_≡_};
-ghost use Rattle.refusals.specs.Frame.{notCan, flagsSet, notForUs, badSource, longEnough, messageIn, listed, maySpeak};
+ghost use Rattle.refusals.specs.Frame.{notCan, flagsSet, notForUs, badSource, longEnough, messageIn, frameNumber, listed, maySpeak};
+ghost use Rattle.messages.specs.Received.{recognizedNumber};
 use messages::identifier;
 use messages::identifier::Identifier;
 use messages::received;
@@ -55,7 +56,8 @@ fn long_enough(bytes: &[u8], known: Recognized) -> Recognized
 
 // 3 to 8, in numeric order: the message in a frame, or the number of the first check that refuses it.
 pub fn message_in(own: u8, id: u32, bytes: &[u8]) -> Recognized
-    ensures { λ r. ⌜ r ≡ messageIn own id (now (bytes .entry)) ⌝ }
+    ensures number { λ r. ⌜ recognizedNumber r ≡ frameNumber own id (now (bytes .entry)) ⌝ }
+    ensures answer { λ r. ⌜ r ≡ messageIn own id (now (bytes .entry)) ⌝ }
 {
     if not_can(id, bytes) {
         return Recognized::Refused(3);

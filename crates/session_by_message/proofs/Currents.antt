@@ -13,7 +13,7 @@ use Rattle.settings.specs.declared.Settings.{Settings}
 use Rattle.charge_messages.specs.declared.Offer.{Offer}
 use Rattle.units.specs.declared.Signed.{Signed}
 use Rattle.units.specs.declared.Signed.the-variants.{NotBelow, Below}
-use Rattle.units.specs.Signed.{signedOf}
+use Rattle.units.specs.InnerSigned.{signedOf}
 use Rattle.session_by_message.specs.Offer.{offeredTenths, acceptedOf, notBelow, stationMaximum}
 use Rattle.session_by_message.specs.InnerSigned.{wholeOf}
 

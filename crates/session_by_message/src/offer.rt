@@ -1,7 +1,7 @@
 // What a CMP offers: what its current words mean, the yes rule, and the station's maximum (01, "Session by message").
 ghost use mathlib.Core.Path.{_≡_};
 ghost use lib.Signed.{leZ};
-ghost use Rattle.units.specs.Signed.{signedOf};
+ghost use Rattle.units.specs.InnerSigned.{signedOf};
 ghost use Rattle.session_by_message.specs.Offer.{offeredTenths, acceptedOf, notBelow, stationMaximum};
 ghost use Rattle.session_by_message.specs.InnerSigned.{wholeOf};
 use charge_messages::Offer;

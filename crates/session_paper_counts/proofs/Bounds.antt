@@ -1,5 +1,5 @@
 -- In the code's session no count is ever large, so none can overflow, in any run from Idle: a state's count is at most 600, the limit of
--- Stopping and Error. Where a larger one is handed in it goes back to the limit. Assumes nothing.
+-- Stopping and Error. A count that moves up to a limit comes back to it where a larger one is handed in. Assumes nothing.
 use mathlib.Core.List.{List, [], _∷_}
 use mathlib.Core.Path.{_≡_}
 use Prim.Native.Nat.{ℕ, _≤_}

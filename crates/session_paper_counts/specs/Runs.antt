@@ -16,13 +16,13 @@ pub data Step : Type 0 where
   Tick : Readings → Cells → Step
 
 -- what is seen of a step: a message's number, a tick's frames
-pub data Seen : Type 0 where
-  Number : ℕ → Seen
-  Frames : List Frame → Seen
+pub data StepSeen : Type 0 where
+  Number : ℕ → StepSeen
+  Frames : List Frame → StepSeen
 
-unfoldable pub seenAt : Settings → Session → Step → Seen
-seenAt x s (Message source m) = Number (messageOf x source s m .number)
-seenAt x s (Tick r c) = Frames (sentOf x r c s)
+unfoldable pub stepSeen : Settings → Session → Step → StepSeen
+stepSeen x s (Message source m) = Number (messageOf x source s m .number)
+stepSeen x s (Tick r c) = Frames (sentOf x r c s)
 
 -- the next session, with the paper's counts and with the code's
 unfoldable pub literalNext : Settings → Session → Step → Session
@@ -34,9 +34,9 @@ codeNext x s (Message source m) = messageOf x source s m .session
 codeNext x s (Tick r c) = tickOf x r c s
 
 -- all that is seen of a run, and the session that it leaves
-unfoldable pub seenOf : (Settings → Session → Step → Session) → Settings → Session → List Step → List Seen
-seenOf next x s [] = []
-seenOf next x s (k ∷ ks) = seenAt x s k ∷ seenOf next x (next x s k) ks
+unfoldable pub stepsSeen : (Settings → Session → Step → Session) → Settings → Session → List Step → List StepSeen
+stepsSeen next x s [] = []
+stepsSeen next x s (k ∷ ks) = stepSeen x s k ∷ stepsSeen next x (next x s k) ks
 
 unfoldable pub lastOf : (Settings → Session → Step → Session) → Settings → Session → List Step → Session
 lastOf next x s [] = s

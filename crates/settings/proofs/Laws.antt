@@ -11,7 +11,7 @@ use lib.ListN.{length, length-append}
 use lib.Seq.{length-take-le}
 use borrow.Author.Tests.{leb-true, le-leb, lt-leb, lt-ltb, le-ltb}
 use Rattle.buffers.specs.Words.{wordBytes, wordAt}
-use Rattle.buffers.specs.Laid.{Laid}
+use Rattle.buffers.specs.InnerLaid.{Laid}
 use Rattle.buffers.proofs.Laws.{laid-start}
 use Rattle.settings.specs.declared.Settings.{Settings}
 use Rattle.settings.specs.declared.Stations.{Stations}
@@ -21,7 +21,7 @@ use Rattle.settings.specs.Range.{lastAddress, leastStations, mostStation
 use Rattle.settings.specs.Range.{stationList, goodStations, limitsInRange, inRange}
 use Rattle.settings.specs.Record.{field, versionList, recordOf}
 use Rattle.settings.specs.Read.{headAt, layoutOf, settingsOf, recordNumber, answerNumber, readOf}
-use Rattle.settings.specs.Write.{Wrote, writeNumber, writtenOf, laterOf}
+use Rattle.settings.specs.Write.{Wrote, writeNumber, writtenOf, bufferAfter}
 use Rattle.buffers.proofs.Tests.{and-left, and-right}
 
 -- ---- ranges
@@ -175,13 +175,13 @@ record-front x h = rw (length-stations (x .stations) h)
 
 module _ (x : Settings) (old : List ℕ) (b : Bool) (range : b ≡ inRange x) where
   pub wrote-2 : b ≡ false → Wrote x old old (record { number = 2; bytes = 0 })
-  unfolding writeNumber writtenOf laterOf
+  unfolding writeNumber writtenOf bufferAfter
   wrote-2 e =
       let w : writeNumber x old ≡ 2 = simp (sym range ∙ e) in
       record { answer = simp w; later = simp w }
 
   pub wrote-17 : b ≡ true → length old < 35 + x .stations .count → Wrote x old old (record { number = 17; bytes = 0 })
-  unfolding writeNumber writtenOf laterOf
+  unfolding writeNumber writtenOf bufferAfter
   wrote-17 e h =
       let l : length (recordOf x) ≡ 35 + x .stations .count = length-record x (range-four x (sym range ∙ e)) in
       let w : writeNumber x old ≡ 17 = simp (sym range ∙ e, l, lt-ltb _ _ h) in
@@ -189,7 +189,7 @@ module _ (x : Settings) (old : List ℕ) (b : Bool) (range : b ≡ inRange x) wh
 
   pub wrote-0 : b ≡ true → 35 + x .stations .count ≤ length old → (new : List ℕ) (r : ℕ) → Laid old new 0 r (recordOf x)
       → Wrote x old new (record { number = 0; bytes = r })
-  unfolding writeNumber writtenOf laterOf
+  unfolding writeNumber writtenOf bufferAfter
   wrote-0 e h new r a =
       let l : length (recordOf x) ≡ 35 + x .stations .count = length-record x (range-four x (sym range ∙ e)) in
       let w : writeNumber x old ≡ 0 = simp (sym range ∙ e, l, le-ltb _ _ h) in

@@ -20,7 +20,7 @@ use Rattle.settings.specs.Range.{leastStations, mostStations, within, in
 use Rattle.settings.specs.Record.{field, versionList, recordOf}
 use Rattle.settings.specs.Read.{headAt, layoutOf, stationAt, stationsAt, versionsAt, limitsOf, settingsOf, readOf}
 use Rattle.settings.specs.Tidy.{withStations, tidy, tidyStations, Bytes}
-use Rattle.settings.specs.Write.{Wrote, writeNumber, writtenOf, laterOf}
+use Rattle.settings.specs.Write.{Wrote, writeNumber, writtenOf, bufferAfter}
 use Rattle.buffers.proofs.Tests.{and-left, and-right}
 use Rattle.settings.proofs.Laws.{range-some, range-four, within-least, within-most, read-0}
 
@@ -123,7 +123,7 @@ taken false short e = absurd (omega (arith, e))
 -- and so does reading the bytes that a taken write left at the buffer's start
 pub read-after-write : (x : Settings) (old new : List ℕ) (r : Written) → Wrote x old new r → r .number ≡ 0
     → readOf (take (r .bytes) new) ≡ Read (tidy x)
-unfolding writtenOf laterOf writeNumber
+unfolding writtenOf bufferAfter writeNumber
 read-after-write x old new r w z =
     let k : writeNumber x old ≡ 0 = sym (ap (λ (a : Written). a .number) (w .answer)) ∙ z in
     let b : r .bytes ≡ length (recordOf x) = ap (λ (a : Written). a .bytes) (w .answer) ∙ simp k in

@@ -13,11 +13,11 @@ abbrev pub lastAddress : ℕ
 lastAddress = 253
 
 -- maximum cell voltage, 0.01 V, 200 to 500
-abbrev pub leastCell : ℕ
-leastCell = 200
+abbrev pub leastCellVoltage : ℕ
+leastCellVoltage = 200
 
-abbrev pub mostCell : ℕ
-mostCell = 500
+abbrev pub mostCellVoltage : ℕ
+mostCellVoltage = 500
 
 -- maximum current, 0.1 A, 60 to 4000
 abbrev pub leastCurrent : ℕ
@@ -74,7 +74,7 @@ goodStations own s =
 -- the maxima, in the order of the tags
 unfoldable pub limitsInRange : Limits → Bool
 limitsInRange l =
-    within leastCell mostCell (l .cell .0)
+    within leastCellVoltage mostCellVoltage (l .cell .0)
     && (within leastCurrent mostCurrent (l .current .0)
     && (within leastPack mostPack (l .pack .0) && within 0 mostTemperature (l .temperature .0)))
 

@@ -1,4 +1,4 @@
--- Two words that the round trips speak in (proofs/RoundTrip.antt).
+-- What the round trips speak of (proofs/RoundTrip.antt).
 use Prim.Native.Nat.{ℕ, _<_}
 use mathlib.Core.Bool.{cond}
 use mathlib.Core.List.{List}

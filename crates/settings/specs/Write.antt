@@ -22,10 +22,10 @@ writtenOf x old =
     record { number = writeNumber x old; bytes = cond (eqb (writeNumber x old) 0) (length (recordOf x)) 0 }
 
 -- the record at the buffer's start and the rest of the buffer unchanged; the whole buffer unchanged where refused
-unfoldable pub laterOf : Settings → List ℕ → List ℕ
-laterOf x old = cond (eqb (writeNumber x old) 0) (recordOf x ++ drop (length (recordOf x)) old) old
+unfoldable pub bufferAfter : Settings → List ℕ → List ℕ
+bufferAfter x old = cond (eqb (writeNumber x old) 0) (recordOf x ++ drop (length (recordOf x)) old) old
 
 -- a write's whole outcome: its answer, and the later contents of the buffer
 pub record Wrote (x : Settings) (old new : List ℕ) (r : Written) : Type 0 where
   pub answer : r ≡ writtenOf x old
-  pub later : new ≡ laterOf x old
+  pub later : new ≡ bufferAfter x old

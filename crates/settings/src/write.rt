@@ -3,7 +3,7 @@ ghost use mathlib.Core.Path.{_≡_};
 ghost use mathlib.Core.List.{_++_};
 ghost use Prim.Native.Nat.{_+_, _≤_};
 ghost use lib.ListN.{length};
-ghost use Rattle.buffers.specs.Laid.{Laid};
+ghost use Rattle.buffers.specs.InnerLaid.{Laid};
 ghost use Rattle.settings.specs.Record.{field, versionList, recordOf};
 ghost use Rattle.settings.specs.Range.{stationList};
 ghost use Rattle.settings.specs.Write.{Wrote};

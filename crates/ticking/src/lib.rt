@@ -6,7 +6,7 @@ ghost use mathlib.Core.List.{[], _∷_, _++_};
 ghost use Prim.Native.Nat.{_+_, _*_, _≤_};
 ghost use lib.ListN.{length};
 ghost use Rattle.frames.specs.Frame.{recordSize};
-ghost use Rattle.frames.specs.Sent.{Sent};
+ghost use Rattle.frames.specs.InnerSent.{Sent};
 ghost use Rattle.cells.specs.InnerBounds.{BoundedCells};
 ghost use Rattle.session.specs.Frames.{frameList};
 ghost use Rattle.broadcasts.specs.Sendings.{inOrder, broadcastAt};

@@ -9,7 +9,7 @@ use lib.Signed.{ltZ}
 use mir.Syntax.{w16}
 use mir.Val.{SFits}
 use Rattle.units.specs.declared.Signed.the-variants.{NotBelow, Below}
-use Rattle.units.specs.Signed.{signedOf}
+use Rattle.units.specs.InnerSigned.{signedOf}
 
 never : {A : Type 0} → _≡_ {A = Bool} false true → A
 never e = let z : _≡_ {A = ℕ} 0 1 = cc in absurd (omega arith)

@@ -5,7 +5,7 @@
 ghost use mathlib.Core.Path.{_≡_};
 ghost use lib.Dec.{leb, ltb};
 ghost use Rattle.units.specs.Units.{lesserOf, inSeries, lesserAmps, halvedAmps, rawAmps};
-ghost use Rattle.units.specs.Signed.{signedOf};
+ghost use Rattle.units.specs.InnerSigned.{signedOf};
 
 // A pack voltage: 0.1 V.
 pub struct TenthVolts(pub u16);

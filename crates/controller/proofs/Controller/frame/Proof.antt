@@ -16,7 +16,7 @@ message-to-requires c κs = search needs
 
 returns : tie.Need-returns
 unfolding frameTo
-returns c = c .message-to .ensures ∙ rw (c .before .parts .ensures, c .before .before .message-in .ensures)
+returns c = c .message-to .ensures ∙ rw (c .before .parts .ensures, c .before .before .message-in .ensures .1)
 
 pub frame-spec : {M : Type 1} → statement M
 frame-spec = tie.close (tie.spec message-in-requires parts-requires message-to-requires returns)

@@ -1,5 +1,5 @@
 -- `frames::Frame::record` meets its contract. Assumes nothing.
-use Rattle.frames.specs.Frame.{recordOf}
+use Rattle.frames.specs.Frame.{frameRecord}
 use borrow.Author.Needs.{needs}
 use Rattle.frames.proofs.Frame.record.Statement.{statement}
 use Rattle.frames.proofs.Frame.record.Tie as tie
@@ -41,7 +41,7 @@ array-read-t38 : tie.Need-array-read-t38
 array-read-t38 c = search needs
 
 returns : tie.Need-returns
-unfolding recordOf
+unfolding frameRecord
 returns c = search needs
 
 pub record-spec : {M : Type 1} → statement M

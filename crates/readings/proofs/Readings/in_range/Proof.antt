@@ -1,6 +1,6 @@
 -- `readings::Readings::in_range` meets its contract. Assumes nothing.
 use mir.Facts.{toZ-ofZ}
-use Rattle.readings.specs.Readings.{inRange}
+use Rattle.readings.specs.Readings.{readingsInRange}
 use borrow.Author.Needs.{needs}
 use Rattle.readings.proofs.Readings.in_range.Statement.{statement}
 use Rattle.readings.proofs.Readings.in_range.Tie as tie
@@ -9,7 +9,7 @@ current-ok-requires : tie.Need-current-ok-requires
 current-ok-requires c κs = search needs
 
 returns : tie.Need-returns
-unfolding inRange
+unfolding readingsInRange
 returns c =
     let d = c .before .before in
     rw (rw (toZ-ofZ (record { sfits = d .before .struct-told .given .1 .1 .1 .0 .1 })) at (d .current-ok .ensures))

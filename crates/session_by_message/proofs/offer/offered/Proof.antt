@@ -1,6 +1,6 @@
 -- `offer::offered` meets its contract. Assumes nothing.
 use mathlib.Core.Path.{sym, ap}
-use Rattle.units.specs.Signed.{signedOf}
+use Rattle.units.specs.InnerSigned.{signedOf}
 use Rattle.session_by_message.proofs.Currents.{not-below, below}
 use borrow.Author.Needs.{needs}
 use Rattle.session_by_message.proofs.offer.offered.Statement.{statement}
