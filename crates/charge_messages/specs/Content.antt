@@ -1,5 +1,5 @@
--- Allowed content (01, "Numbers returned", 10): CIM 01 01 00; CVM 00 or AA; CRM 00, AA or FF; CCS byte 5 00 or 01; CST and CEM byte 3 00
--- or AA; CMP any. The paper counts bytes from 1, a list from 0.
+-- Allowed content (01, "Numbers returned", 10): CIM 01 01 00; CVM 00 or AA; CRM 00, AA or FF; CCS byte 5 00 or 01; CST
+-- and CEM byte 3 00 or AA; CMP any. The paper counts bytes from 1, a list from 0.
 use Prim.Native.Nat.{ℕ}
 use mathlib.Core.Bool.{Bool, true, false, cond, _&&_, _||_}
 use mathlib.Core.List.{List}
@@ -63,7 +63,8 @@ allowedContent charge.Ccs s = eqb (getD s 4 0) 0x01 || eqb (getD s 4 0) 0x00
 allowedContent charge.Cst s = eqb (getD s 2 0) 0xaa || eqb (getD s 2 0) 0x00
 allowedContent charge.Cem s = eqb (getD s 2 0) 0xaa || eqb (getD s 2 0) 0x00
 
--- the paper's number for each case of the answer: 0 where the content is allowed, else 10 (`content-number`, proofs/Numbers.antt)
+-- the paper's number for each case of the answer: 0 where the content is allowed, else 10 (`content-number`,
+-- proofs/Numbers.antt)
 abbrev pub contentNumber : Content → ℕ
 contentNumber (Allowed m) = 0
 contentNumber (Refused n) = n

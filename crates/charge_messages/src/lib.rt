@@ -1,5 +1,6 @@
-// What a station says: a charge message's data bytes as a typed message, or 10 where the content is not allowed (01, "Numbers
-// returned"). Data past a message's fields is not looked at. This crate may not know states, or what a message brings about.
+// What a station says: a charge message's data bytes as a typed message, or 10 where the content is not allowed (01,
+// "Numbers returned"). Data past a message's fields is not looked at. This crate may not know states, or what a message
+// brings about.
 ghost use mathlib.Core.Path.{_≡_};
 ghost use lib.ListN.{getD};
 ghost use Rattle.charge_messages.specs.Content.{cimOf, cvmOf, cmpOf, crmOf, ccsOf, cstOf, cemOf, contentOf};

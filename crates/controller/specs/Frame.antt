@@ -1,5 +1,5 @@
--- A received frame: 01, "Numbers returned", 3 to 13. Checks run in numeric order; a refusal alters nothing but as noted at 11.
--- The checks 3 to 8, and who may speak of a charge (9), stand in `refusals`, `specs/Frame.antt`.
+-- A received frame: 01, "Numbers returned", 3 to 13. Checks run in numeric order; a refusal alters nothing but as noted
+-- at 11. The checks 3 to 8, and who may speak of a charge (9), stand in `refusals`, `specs/Frame.antt`.
 use Prim.Native.Nat.{ℕ}
 use mathlib.Core.Path.{_≡_}
 use mathlib.Core.Bool.{Bool, cond}

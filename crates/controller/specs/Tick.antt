@@ -1,5 +1,5 @@
--- A tick: 01, "Numbers returned", 14 to 16, and "Broadcasts and cell answers" for the order of its frames. A refused tick changes neither the
--- controller nor one byte. The tests 14 to 16 stand in `refusals`, `specs/Tick.antt`.
+-- A tick: 01, "Numbers returned", 14 to 16, and "Broadcasts and cell answers" for the order of its frames. A refused
+-- tick changes neither the controller nor one byte. The tests 14 to 16 stand in `refusals`, `specs/Tick.antt`.
 use Prim.Native.Nat.{ℕ, _*_}
 use mathlib.Core.Path.{_≡_}
 use mathlib.Core.Bool.{Bool, cond}
@@ -49,8 +49,9 @@ module _ (c : Controller) (r : Readings) (v : List ℕ) (t : List ℤ) where
   unfoldable pub accepted : ℕ → Bool
   accepted room = eqb (tickNumber r v t room) 0
 
-  -- a tick's whole outcome: the number; the bytes written, thirteen a frame, 0 if refused; the next controller, the same if refused;
-  -- and the buffer's later contents, the frames' records from its start and the rest unchanged, all of it unchanged if refused
+  -- a tick's whole outcome: the number; the bytes written, thirteen a frame, 0 if refused; the next controller, the
+  -- same if refused; and the buffer's later contents, the frames' records from its start and the rest unchanged, all of
+  -- it unchanged if refused
   pub record TickIs (old new : List ℕ) (k : Ticked) : Type 0 where
     pub number : k .number ≡ tickNumber r v t (length old)
     pub bytes : k .bytes ≡ cond (accepted (length old)) (recordSize * length tickFrames) 0

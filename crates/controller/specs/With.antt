@@ -1,4 +1,5 @@
--- A controller with one part changed, the others as they were: a helper a field, so that a new field is added here and nowhere else.
+-- A controller with one part changed, the others as they were: a helper a field, so that a new field is added here and
+-- nowhere else.
 use Rattle.session.specs.declared.Session.{Session}
 use Rattle.broadcasts.specs.declared.beat.Beat.{Beat}
 use Rattle.queries.specs.declared.Queries.{Queries}

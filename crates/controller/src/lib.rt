@@ -1,6 +1,6 @@
-// The controller that a railcar's host calls: four entry points, settings read and written, a received frame, a tick. It joins the
-// session with the box of broadcasts and queries beside it, neither of which reads the other, and tests all that it is handed
-// (01, "Numbers returned"). It may not know anything new: every rule stands in a crate below.
+// The controller that a railcar's host calls: four entry points, settings read and written, a received frame, a tick.
+// It joins the session with the box of broadcasts and queries beside it, neither of which reads the other, and tests
+// all that it is handed (01, "Numbers returned"). It may not know anything new: every rule stands in a crate below.
 ghost use mathlib.Core.Path.{_≡_};
 ghost use Rattle.controller.specs.With.{withSession, withBeat, withQueries};
 use broadcasts::beat::Beat;

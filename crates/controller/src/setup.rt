@@ -37,7 +37,8 @@ pub fn read(bytes: &[u8]) -> Start
 }
 
 impl Controller {
-    // ENTRY POINT. Any buffer: the settings in use as a record from its start, or the number of the refusal and the buffer unchanged.
+    // ENTRY POINT. Any buffer: the settings in use as a record from its start, or the number of the refusal and the
+    // buffer unchanged.
     pub fn write(self, buf: &mut [u8]) -> Written
         ensures { λ r. ⌜ Wrote (self .settings) (now (buf .entry)) (now (buf .exit)) r ⌝ }
     {

@@ -9,7 +9,8 @@ use Rattle.broadcasts.specs.Beat.{twoSendings}
 use Rattle.controller.specs.With.{withSession, withBeat}
 use Rattle.demands.specs.Machine.{Box, NoController, Using}
 
--- the session's counts folded, the number of accepted ticks modulo that of two sendings, settings and waiting queries the same
+-- the session's counts folded, the number of accepted ticks modulo that of two sendings, settings and waiting queries
+-- the same
 unfoldable pub codeOf : Controller → Controller
 codeOf c = withBeat (withSession c (folds (c .session))) (record { tick = c .beat .tick % twoSendings })
 

@@ -1,5 +1,6 @@
--- The numbers that the paper sets and that stand behind a name in every definition (01, "Readings", "Numbers returned", "Session by tick",
--- "Broadcasts and cell answers"), each with the paper's value: no definition and its code can move one together unseen. For `paper-numbers`.
+-- The numbers that the paper sets and that stand behind a name in every definition (01, "Readings", "Numbers returned",
+-- "Session by tick", "Broadcasts and cell answers"), each with the paper's value: no definition and its code can move
+-- one together unseen. For `paper-numbers`.
 use mathlib.Core.Path.{_≡_}
 use Rattle.frames.specs.Frame.{recordSize}
 use Rattle.cells.specs.Tables.{mostCells}

@@ -60,8 +60,10 @@ pub record WorkedRows : Type 0 where
   pub offered-1-2 : offeredTenths (word 3988) ≡ pos 12
   pub offered-minus-50 : offeredTenths (word 4500) ≡ negsuc 499
   -- maximum pack voltage 65535: 48 cells hold at 1704; 3 at 106
-  pub hold-48 : (x : Settings) (c : Cells) → x .limits .pack .0 ≡ 65535 → cellCount (c .volts) ≡ 48 → holdVoltage x c .0 ≡ 1704
-  pub hold-3 : (x : Settings) (c : Cells) → x .limits .pack .0 ≡ 65535 → cellCount (c .volts) ≡ 3 → holdVoltage x c .0 ≡ 106
+  pub hold-48 : (x : Settings) (c : Cells) → x .limits .pack .0 ≡ 65535
+      → cellCount (c .volts) ≡ 48 → holdVoltage x c .0 ≡ 1704
+  pub hold-3 : (x : Settings) (c : Cells) → x .limits .pack .0 ≡ 65535
+      → cellCount (c .volts) ≡ 3 → holdVoltage x c .0 ≡ 106
   -- 400 is asked 400, 200, 100, then Hold: each Drive goes to Rest at a full cell, each Rest of 6000 ticks to what
   -- follows
   pub asked-400 : startPhase (tenths 400) (tenths 400) ≡ Drive (tenths 400) 1 0
@@ -72,9 +74,12 @@ pub record WorkedRows : Type 0 where
   pub rest-100 : phaseAfter (Drive (tenths 100) 3 0) true ≡ On (Rest (tenths 100) 3 0)
   pub then-hold : phaseAfter (Rest (tenths 100) 3 restLimit) false ≡ On (Hold 0)
   -- which ECR says in mode 02 with voltage 0, as 4000 minus each
-  pub ecr-400 : (x : Settings) (station cycle time : ℕ) (c : Cells) → ecrOf x station c (Drive (tenths 400) cycle time) ≡ ecrFrame x station 0 3600 0x02
-  pub ecr-200 : (x : Settings) (station cycle time : ℕ) (c : Cells) → ecrOf x station c (Drive (tenths 200) cycle time) ≡ ecrFrame x station 0 3800 0x02
-  pub ecr-100 : (x : Settings) (station cycle time : ℕ) (c : Cells) → ecrOf x station c (Drive (tenths 100) cycle time) ≡ ecrFrame x station 0 3900 0x02
+  pub ecr-400 : (x : Settings) (station cycle time : ℕ) (c : Cells)
+      → ecrOf x station c (Drive (tenths 400) cycle time) ≡ ecrFrame x station 0 3600 0x02
+  pub ecr-200 : (x : Settings) (station cycle time : ℕ) (c : Cells)
+      → ecrOf x station c (Drive (tenths 200) cycle time) ≡ ecrFrame x station 0 3800 0x02
+  pub ecr-100 : (x : Settings) (station cycle time : ℕ) (c : Cells)
+      → ecrOf x station c (Drive (tenths 100) cycle time) ≡ ecrFrame x station 0 3900 0x02
   -- R 60 drives, 59 holds: at the start and after a Rest
   pub drives-60 : startPhase (tenths 400) (tenths 60) ≡ Drive (tenths 60) 1 0
   pub holds-59 : startPhase (tenths 400) (tenths 59) ≡ Hold 0
@@ -91,10 +96,12 @@ pub record WorkedRows : Type 0 where
       ≡ frameOf (toTarget 0x32 7) source own (0x00 ∷ 0x00 ∷ 0x00 ∷ 0x00 ∷ 0x4c ∷ 0x01 ∷ 0x4b ∷ 0x01 ∷ [])
   -- 255 cells end at PF 70 and A0: the group that is sent last has that PF, and there is one
   pub voltages-end : (v : List ℕ) (t : List ℤ) (source group : ℕ) → length v ≡ 255
-      → pastEnd v t (voltagesAt source group) ≡ false → atLast v t (voltagesAt source group) ≡ true → pfOf (groupRow Voltages group) ≡ 0x70
+      → pastEnd v t (voltagesAt source group) ≡ false → atLast v t (voltagesAt source group) ≡ true
+      → pfOf (groupRow Voltages group) ≡ 0x70
   pub voltages-sent : (v : List ℕ) (t : List ℤ) (source : ℕ) → length v ≡ 255
       → (pastEnd v t (voltagesAt source 63) ≡ false) × (atLast v t (voltagesAt source 63) ≡ true)
   pub temperatures-end : (v : List ℕ) (t : List ℤ) (source group : ℕ) → length t ≡ 255
-      → pastEnd v t (temperaturesAt source group) ≡ false → atLast v t (temperaturesAt source group) ≡ true → pfOf (groupRow Temperatures group) ≡ 0xa0
+      → pastEnd v t (temperaturesAt source group) ≡ false → atLast v t (temperaturesAt source group) ≡ true
+      → pfOf (groupRow Temperatures group) ≡ 0xa0
   pub temperatures-sent : (v : List ℕ) (t : List ℤ) (source : ℕ) → length t ≡ 255
       → (pastEnd v t (temperaturesAt source 31) ≡ false) × (atLast v t (temperaturesAt source 31) ≡ true)

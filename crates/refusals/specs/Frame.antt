@@ -35,8 +35,8 @@ unfoldable pub longEnough : List ℕ → Recognized → Recognized
 longEnough s (As m) = cond (ltb (length s) (leastLength m)) (Refused 8) (As m)
 longEnough s (Refused n) = Refused n
 
--- 3 to 8, in numeric order (7, "PF not one of the nine", is `recognizedOf`): the message in a frame, or the number of the first
--- check that refuses it. Of the controller nothing is asked but its own address
+-- 3 to 8, in numeric order (7, "PF not one of the nine", is `recognizedOf`): the message in a frame, or the number of
+-- the first check that refuses it. Of the controller nothing is asked but its own address
 unfoldable pub messageIn : ℕ → ℕ → List ℕ → Recognized
 messageIn own id s =
     cond (notCan id s) (Refused 3)

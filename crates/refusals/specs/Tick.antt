@@ -16,8 +16,8 @@ mostFrames = 9
 abbrev pub tickRoom : ℕ
 tickRoom = mostFrames * recordSize
 
--- 14: tables differ in length, or hold none or over 255; 15: a reading or cell outside its range; 16: buffer under 117 bytes (nine frames); 0 is
--- taken
+-- 14: tables differ in length, or hold none or over 255; 15: a reading or cell outside its range; 16: buffer under 117
+-- bytes (nine frames); 0 is taken
 unfoldable pub tickNumber : Readings → List ℕ → List ℤ → ℕ → ℕ
 tickNumber r v t room =
     cond (tablesFit v t) (cond (readingsInRange r && cellsInRange v t) (cond (ltb room tickRoom) 16 0) 15) 14

@@ -1,6 +1,6 @@
-// Replays a list of calls: reads them on standard input, a line each (crate replay_script), and writes what the controller answers, sends
-// and enters. This crate reads the input and hands its lines on: it may not know what a line asks for, how an answer is printed, nor
-// any rule of the paper.
+// Replays a list of calls: reads them on standard input, a line each (crate replay_script), and writes what the
+// controller answers, sends and enters. This crate reads the input and hands its lines on: it may not know what a line
+// asks for, how an answer is printed, nor any rule of the paper.
 use libc::STDIN_FILENO;
 use replay_host::lines::Run;
 use replay_print::Buffer;
@@ -44,7 +44,8 @@ fn or_end(text: &mut Text, filled: usize, count: usize) -> usize {
     65536
 }
 
-// One read of the input, and the lines that it ends. What is held of the line after these is moved to the start, to be read on.
+// One read of the input, and the lines that it ends. What is held of the line after these is moved to the start, to be
+// read on.
 fn chunk(
     p: Place,
     text: &mut Text,

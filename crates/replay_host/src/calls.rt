@@ -1,4 +1,5 @@
-// The four entry points called, each handed the first so many of what is lent to it: slices are cut here, and nowhere else.
+// The four entry points called, each handed the first so many of what is lent to it: slices are cut here, and nowhere
+// else.
 ghost use Prim.Native.Nat.{_≤_};
 use controller::Answer;
 use controller::Controller;

@@ -1,4 +1,5 @@
-// What is held from call to call; and a settings record, a frame or a write: called, and what it was answered and changed printed.
+// What is held from call to call; and a settings record, a frame or a write: called, and what it was answered and
+// changed printed.
 use crate::calls;
 use controller::Answer;
 use controller::Controller;
@@ -55,7 +56,8 @@ impl Kept {
         k
     }
 
-    // The controller that a call gave, after so many accepted ticks. Its standing is printed last, where the call has changed it.
+    // The controller that a call gave, after so many accepted ticks. Its standing is printed last, where the call has
+    // changed it.
     pub fn with(self, c: Controller, accepted: u64, o: &mut Out, at: usize) -> Kept {
         let before = self.held;
         let now = standing(c);

@@ -13,8 +13,8 @@ use replay_text::Text;
 use replay_text::hex::Bytes;
 use replay_text::lines;
 
-// All that a run keeps from line to line, but for the tables and the buffers: the controller with the free place of the output, what
-// ticks are lent, a log's clock, and the line's number.
+// All that a run keeps from line to line, but for the tables and the buffers: the controller with the free place of the
+// output, what ticks are lent, a log's clock, and the line's number.
 pub struct Run {
     pub kept: Kept,
     pub lent: Lent,

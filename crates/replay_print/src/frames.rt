@@ -14,8 +14,8 @@ fn time(o: &mut Out, at: usize, tick: u64) -> usize {
     out::put(o, a, b')')
 }
 
-// The frame that is laid from the i-th byte on: its identifier, of which the last byte is laid first, its length, which is always eight,
-// and its data.
+// The frame that is laid from the i-th byte on: its identifier, of which the last byte is laid first, its length, which
+// is always eight, and its data.
 fn frame(o: &mut Out, at: usize, buf: &Buffer, i: usize) -> usize
     requires { ⌜ i + 13 ≤ 4096 ⌝ }
 {

@@ -1,4 +1,5 @@
-// What each tick is lent: the readings, and the first so many of two tables and of a buffer. Lines of the script set it.
+// What each tick is lent: the readings, and the first so many of two tables and of a buffer. Lines of the script set
+// it.
 use crate::Asked;
 use readings::Marks;
 use readings::Readings;

@@ -1,15 +1,11 @@
-// One line of a script, read as the call or the setting that it asks for:
-//   settings HEX                    a settings record (`-`: no bytes); one that is accepted makes a fresh controller
-//   readings ST1 ST2 SOC CURRENT PACKV CAPACITY AF LF AW LW
-//   voltages N N ..                 the cell tables that each later tick is lent
-//   temperatures N N ..
-//   buffer N                        the length of the buffer that each later tick is lent
-//   tick [N]                        one tick, or N
-//   ID#DATA                         a received frame, in hex
-//   (SECONDS.MICROS) IFACE ID#DATA  the same from a candump log, after the ticks that are due by then
-//   write N                         the settings in use, into a buffer of N bytes
-// Besides, what each tick is lent, and which ticks are due by a log's clock. This crate may not know any controller, what a call comes
-// to, nor any rule of the paper.
+// One line of a script, read as the call or the setting that it asks for: settings HEX                    a settings
+// record (`-`: no bytes); one that is accepted makes a fresh controller readings ST1 ST2 SOC CURRENT PACKV CAPACITY AF
+// LF AW LW voltages N N ..                 the cell tables that each later tick is lent temperatures N N .. buffer N
+// the length of the buffer that each later tick is lent tick [N]                        one tick, or N ID#DATA
+// a received frame, in hex (SECONDS.MICROS) IFACE ID#DATA  the same from a candump log, after the ticks that are due by
+// then write N                         the settings in use, into a buffer of N bytes Besides, what each tick is lent,
+// and which ticks are due by a log's clock. This crate may not know any controller, what a call comes to, nor any rule
+// of the paper.
 use lent::Temperatures;
 use lent::Voltages;
 use readings::Readings;
@@ -25,10 +21,10 @@ pub mod lent;
 pub mod settings;
 pub mod ticks;
 
-// What a line asks for: nothing; a settings record of so many bytes; the readings, so many voltages, so many temperatures or a buffer of
-// such a length lent to later ticks; so many ticks; a received frame, by its identifier and the number of its data bytes; such a frame
-// at a log's time, in microseconds; the settings in use written into so many bytes. The bytes and the entries of tables stand in
-// arrays beside it. A line that is none of these cannot be read.
+// What a line asks for: nothing; a settings record of so many bytes; the readings, so many voltages, so many
+// temperatures or a buffer of such a length lent to later ticks; so many ticks; a received frame, by its identifier and
+// the number of its data bytes; such a frame at a log's time, in microseconds; the settings in use written into so many
+// bytes. The bytes and the entries of tables stand in arrays beside it. A line that is none of these cannot be read.
 pub enum Asked {
     Nothing,
     Settings(usize),
@@ -107,9 +103,9 @@ fn read_words(
     }
 }
 
-// What the line asks for that begins at a place and has its newline at another. The bytes that it gives are laid into `bytes`, the
-// entries of a table into that table, and nothing is kept of a line that cannot be read. A blank line or a comment is ignored, however
-// long; any other may have 4,096 characters.
+// What the line asks for that begins at a place and has its newline at another. The bytes that it gives are laid into
+// `bytes`, the entries of a table into that table, and nothing is kept of a line that cannot be read. A blank line or a
+// comment is ignored, however long; any other may have 4,096 characters.
 pub fn read_line(
     text: &Text,
     at: usize,

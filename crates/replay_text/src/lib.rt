@@ -1,6 +1,6 @@
-// Lines of text where they stand in the input: where each ends, its words, and the decimal numbers and the hex that these are. A line is
-// read with the newline that ends it, so that a walk along it stops there by itself. This crate may not know what a line asks for, nor
-// any controller.
+// Lines of text where they stand in the input: where each ends, its words, and the decimal numbers and the hex that
+// these are. A line is read with the newline that ends it, so that a walk along it stops there by itself. This crate
+// may not know what a line asks for, nor any controller.
 pub mod digits;
 pub mod hex;
 pub mod lines;

@@ -6,8 +6,8 @@ use crate::words;
 // As many characters as a line may have.
 pub const LONGEST: usize = 4096;
 
-// The place of the newline from a place on. It is never before that one, so that a walk from line to line ends, nor further than the text
-// is long.
+// The place of the newline from a place on. It is never before that one, so that a walk from line to line ends, nor
+// further than the text is long.
 pub fn line_end(text: &Text, from: usize) -> usize
     ensures { λ r. ⌜ (from ≤ r) × (r ≤ from + 65536) ⌝ }
 {
@@ -52,9 +52,9 @@ pub fn moved(text: &mut Text, from: usize, n: usize) -> usize {
     to
 }
 
-// The beginning of a line, of which the first n characters are held: how many are kept of them. Of a line that is too long to be read only
-// that it is so matters, and whether it is blank or a comment: so one character more than a line may have is kept, and where all
-// before that one are gaps, the first that is none stands in its place.
+// The beginning of a line, of which the first n characters are held: how many are kept of them. Of a line that is too
+// long to be read only that it is so matters, and whether it is blank or a comment: so one character more than a line
+// may have is kept, and where all before that one are gaps, the first that is none stands in its place.
 pub fn shortened(text: &mut Text, n: usize) -> usize {
     if n <= LONGEST {
         return n;

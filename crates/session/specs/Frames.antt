@@ -60,7 +60,8 @@ framesIn x r c station count (Charging p) = chargingFrames x r c station count p
 framesIn x r c station count (Stopping acknowledged est) = stoppingFrames x r c station count acknowledged est
 framesIn x r c station count Error = each5 count (eemOf x station ∷ [])
 
--- not wanted before Charging sends one EIM 00, to the station that the session was with; else the frames of the resulting state
+-- not wanted before Charging sends one EIM 00, to the station that the session was with; else the frames of the
+-- resulting state
 unfoldable pub framesOf : Settings → Readings → Cells → ℕ → Turn → Session → List Frame
 framesOf x r c station (On st) s = framesIn x r c (s .station) (s .count) (s .state)
 framesOf x r c station (Enter st) s = framesIn x r c (s .station) (s .count) (s .state)

@@ -9,8 +9,8 @@ use Rattle.session.specs.declared.Session.{Session}
 use Rattle.session.specs.declared.Taken.{Taken}
 use Rattle.session.specs.Session.{idleSession, withSilence, withState, begun, opened}
 
--- a taken charge message, also one that does nothing, sets silence to 0; one that is out of step returns it to 0; any other that is
--- refused alters nothing
+-- a taken charge message, also one that does nothing, sets silence to 0; one that is out of step returns it to 0; any
+-- other that is refused alters nothing
 unfoldable pub sessionAfter : ℕ → Session → Outcome → Session
 sessionAfter source s Refuse = s
 sessionAfter source s OutOfStep = withSilence s 0

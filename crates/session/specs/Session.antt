@@ -1,5 +1,5 @@
--- A session (01, "Session by message"): made, and with one part changed. A helper a field, so that a new field is added here and nowhere
--- else.
+-- A session (01, "Session by message"): made, and with one part changed. A helper a field, so that a new field is added
+-- here and nowhere else.
 use Prim.Native.Nat.{ℕ}
 use Rattle.session_states.specs.declared.states.State.{State}
 use Rattle.session_states.specs.declared.states.State.the-variants.{Idle, Offered}

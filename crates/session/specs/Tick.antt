@@ -1,6 +1,7 @@
--- What a tick makes of a session (01, "Session by tick"): the state change, the frames of the resulting state, then the counts. The counts
--- here are the code's, which go back where no test of the paper can tell; the crate `session_paper_counts` has them as the paper does,
--- growing for ever, and its `runs-in-step` says that the two give the same numbers and frames and enter the same states.
+-- What a tick makes of a session (01, "Session by tick"): the state change, the frames of the resulting state, then the
+-- counts. The counts here are the code's, which go back where no test of the paper can tell; the crate
+-- `session_paper_counts` has them as the paper does, growing for ever, and its `runs-in-step` says that the two give
+-- the same numbers and frames and enter the same states.
 use Prim.Native.Nat.{ℕ}
 use mathlib.Core.List.{List}
 use Rattle.frames.specs.declared.Frame.{Frame}

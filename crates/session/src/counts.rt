@@ -1,5 +1,5 @@
-// The session after a tick's state change, and its counts moved on. A count is kept small by going back where the paper's tests cannot
-// tell (crate session_states, `counts`), so that no session is too long for it.
+// The session after a tick's state change, and its counts moved on. A count is kept small by going back where the
+// paper's tests cannot tell (crate session_states, `counts`), so that no session is too long for it.
 ghost use mathlib.Core.Path.{_≡_};
 ghost use Rattle.session_states.specs.Limits.{silenceLimit};
 ghost use Rattle.session_states.specs.Counts.{nextUpTo};

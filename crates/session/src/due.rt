@@ -161,7 +161,8 @@ fn in_state(
     }
 }
 
-// The frames of a tick: a farewell goes to the station that the session was with, and else those of the resulting state.
+// The frames of a tick: a farewell goes to the station that the session was with, and else those of the resulting
+// state.
 pub fn sent(x: Settings, r: Readings, c: Cells, station: u8, t: Turn, s: Session) -> ChargeFrames
     ensures { λ fs. ⌜ frameList fs ≡ framesOf x r c station t s ⌝ }
 {

@@ -1,6 +1,6 @@
-// A charge session: what a message of its station and what a tick make of it, and the frames that a tick sends to its station (01, "Session
-// by message", "Session by tick"). A library on values: it may not know settings bytes, addresses of others, queries, broadcasts or
-// buffers.
+// A charge session: what a message of its station and what a tick make of it, and the frames that a tick sends to its
+// station (01, "Session by message", "Session by tick"). A library on values: it may not know settings bytes, addresses
+// of others, queries, broadcasts or buffers.
 ghost use mathlib.Core.Path.{_≡_};
 ghost use Rattle.session.specs.Session.{idleSession, withStation, withSilence, withCount, withState, begun, opened};
 ghost use Rattle.session.specs.Message.{messageOf};
@@ -17,7 +17,8 @@ pub mod counts;
 pub mod due;
 pub mod outcome;
 
-// The state with its count, the silence count, and the station that the session is with. In Idle the three numbers are 0.
+// The state with its count, the silence count, and the station that the session is with. In Idle the three numbers are
+// 0.
 pub struct Session {
     pub station: u8,
     pub silence: u8,

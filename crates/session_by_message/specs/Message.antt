@@ -1,5 +1,6 @@
--- What a charge message comes to: 01, "Session by message", each state with a line for each message. A state's count is 0 at its first tick
--- and is moved on after that tick's frames, so a frame that goes out at count k has gone out once the count has passed k.
+-- What a charge message comes to: 01, "Session by message", each state with a line for each message. A state's count is
+-- 0 at its first tick and is moved on after that tick's frames, so a frame that goes out at count k has gone out once
+-- the count has passed k.
 use Prim.Native.Nat.{ℕ}
 use mathlib.Core.Bool.{Bool, true, false, cond, _&&_}
 use lib.Dec.{ltb}
@@ -84,7 +85,8 @@ inParameters x count (Ccs b) = OutOfStep
 inParameters x count (Cst b) = stopByCst
 inParameters x count Cem = endByCem
 
--- Ready: CRM is taken if yes and an ERM AA has gone out since that CMP (which set the count to 0): AA to Charging, 00 and FF stay
+-- Ready: CRM is taken if yes and an ERM AA has gone out since that CMP (which set the count to 0): AA to Charging, 00
+-- and FF stay
 unfoldable pub crmInReady : Settings → Bool → TenthAmps → ℕ → Bool → Outcome
 crmInReady x accepted maximum count b =
     cond (accepted && goneOut 0 count) (cond b (Enter (Charging (startPhase (x .limits .current) maximum))) Heard) OutOfStep

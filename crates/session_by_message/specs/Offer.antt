@@ -9,7 +9,8 @@ use Rattle.units.specs.declared.TenthAmps.{TenthAmps}
 use Rattle.settings.specs.declared.Settings.{Settings}
 use Rattle.charge_messages.specs.declared.Offer.{Offer}
 
--- what a current word of a CMP means, in tenths of an ampere: "current in tenths is 4000 minus the raw word", and so may be below 0
+-- what a current word of a CMP means, in tenths of an ampere: "current in tenths is 4000 minus the raw word", and so
+-- may be below 0
 abbrev pub offeredTenths : RawAmps → ℤ
 offeredTenths raw = pos 4000 -ℤ pos (raw .0)
 

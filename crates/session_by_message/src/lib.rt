@@ -1,6 +1,6 @@
-// What a charge message of the session's station comes to in each state (01, "Session by message"): an outcome a state and message, a
-// line each, read against the paper, and the yes rule of CMP. This crate may not know addresses, silence, ticks or frames; that a
-// frame has gone out it tells by the state's count.
+// What a charge message of the session's station comes to in each state (01, "Session by message"): an outcome a state
+// and message, a line each, read against the paper, and the yes rule of CMP. This crate may not know addresses,
+// silence, ticks or frames; that a frame has gone out it tells by the state's count.
 ghost use mathlib.Core.Path.{_≡_};
 ghost use Rattle.session_by_message.specs.Message.{outcomeNumber};
 use session_states::states::State;

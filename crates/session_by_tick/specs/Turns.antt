@@ -1,4 +1,5 @@
--- What a tick makes of a state: 01, "Session by tick". State changes come first, then the frames of the resulting state.
+-- What a tick makes of a state: 01, "Session by tick". State changes come first, then the frames of the resulting
+-- state.
 use Prim.Native.Nat.{ℕ, _+_}
 use mathlib.Core.Bool.{Bool, true, false, cond}
 use lib.Dec.{eqb, leb}
@@ -39,8 +40,8 @@ isOther PackVoltage = false
 isOther HoldCell = false
 isOther Other = true
 
--- EST byte 1 sums 01 for SOC 100, 04 pack voltage at or above maximum, 10 highest cell at or above maximum, 40 where the cause is
--- neither pack voltage nor a cell in Hold
+-- EST byte 1 sums 01 for SOC 100, 04 pack voltage at or above maximum, 10 highest cell at or above maximum, 40 where
+-- the cause is neither pack voltage nor a cell in Hold
 unfoldable pub estFirst : Settings → Readings → Cells → Cause → ℕ
 estFirst x r c cause =
     cond (eqb (r .soc) 100) 0x01 0 + cond (packFull x r) 0x04 0 + cond (cellFull x c) 0x10 0 + cond (isOther cause) 0x40 0
@@ -80,7 +81,8 @@ unfoldable pub chargingOf : Settings → Readings → Cells → ℕ → Phase �
 chargingOf x r c silence p =
     cond (leb silenceLimit silence) (Enter Error) (cond (wantedOf r) (stopsOf x r c p) (stopOf x r c Other))
 
--- EST bytes 1 and 2 are fixed at Stopping's first tick: where a message entered it, the cause is neither pack voltage nor a cell
+-- EST bytes 1 and 2 are fixed at Stopping's first tick: where a message entered it, the cause is neither pack voltage
+-- nor a cell
 unfoldable pub estThen : Settings → Readings → Cells → Est → Est
 estThen x r c Awaited = estOf x r c Other
 estThen x r c (Fixed first second) = Fixed first second

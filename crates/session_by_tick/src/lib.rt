@@ -1,6 +1,6 @@
-// What a tick makes of a session's state, before any frame (01, "Session by tick"): silence, charge not wanted, the stops of Charging in
-// their order, the phase, the EST bytes fixed at Stopping's first tick, and the ends of Stopping and Error. This crate may not know
-// addresses, frames or how counts go on.
+// What a tick makes of a session's state, before any frame (01, "Session by tick"): silence, charge not wanted, the
+// stops of Charging in their order, the phase, the EST bytes fixed at Stopping's first tick, and the ends of Stopping
+// and Error. This crate may not know addresses, frames or how counts go on.
 ghost use mathlib.Core.Path.{_≡_};
 ghost use mathlib.Core.Bool.{cond};
 ghost use Prim.Native.Nat.{_≤_};

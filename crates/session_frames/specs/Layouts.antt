@@ -1,5 +1,5 @@
--- The ten frames to the station (01, "Session by tick", "Layouts"), each from us to the station with its row of the table. Words are little
--- endian; every frame has 8 data bytes, zero after its fields.
+-- The ten frames to the station (01, "Session by tick", "Layouts"), each from us to the station with its row of the
+-- table. Words are little endian; every frame has 8 data bytes, zero after its fields.
 use Prim.Native.Nat.{ℕ}
 use mathlib.Core.Bool.{Bool, cond}
 use mathlib.Core.List.{[], _∷_, _++_}
@@ -39,7 +39,9 @@ evmOf x station r verified =
 unfoldable pub ecpOf : Settings → ℕ → Frame
 ecpOf x station =
     frameOf ECP station (x .own)
-    (wordBytes (x .limits .cell .0) ++ (wordBytes (x .limits .current .0) ++ (wordBytes (x .limits .pack .0) ++ wordBytes (x .limits .temperature .0))))
+    (wordBytes (x .limits .cell .0)
+    ++ (wordBytes (x .limits .current .0)
+    ++ (wordBytes (x .limits .pack .0) ++ wordBytes (x .limits .temperature .0))))
 
 -- ERM AA or 00
 unfoldable pub ermOf : Settings → ℕ → Bool → Frame
@@ -68,7 +70,8 @@ ecrOf x station c (Hold time) = ecrFrame x station (holdVoltage x c .0) 4000 0x0
 unfoldable pub ecsOf : Settings → ℕ → Readings → Cells → Frame
 ecsOf x station r c =
     frameOf ECS station (x .own)
-    (wordBytes (r .pack .0) ++ (wordBytes (rawOf (r .current)) ++ (wordBytes (highestVoltage (c .volts) .0) ++ (r .soc ∷ 0 ∷ []))))
+    (wordBytes (r .pack .0)
+    ++ (wordBytes (rawOf (r .current)) ++ (wordBytes (highestVoltage (c .volts) .0) ++ (r .soc ∷ 0 ∷ []))))
 
 -- ESM highest voltage index, highest temperature and index, lowest and index, 01
 unfoldable pub esmOf : Settings → ℕ → Cells → Frame

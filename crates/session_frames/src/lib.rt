@@ -1,5 +1,5 @@
-// The ten frames to the station, laid out byte by byte (01, "Session by tick", "Layouts"). Every frame has 8 data bytes, zero after its
-// fields. This crate may not know when a frame is due.
+// The ten frames to the station, laid out byte by byte (01, "Session by tick", "Layouts"). Every frame has 8 data
+// bytes, zero after its fields. This crate may not know when a frame is due.
 ghost use mathlib.Core.Path.{_≡_};
 ghost use Rattle.buffers.specs.Words.{high};
 ghost use Rattle.session_frames.specs.Layouts.{markOf, holdVoltage, eimOf, evmOf, ecpOf, ermOf, ecrFrame, ecrOf, ecsOf, esmOf, estFrame, edmOf, eemOf};

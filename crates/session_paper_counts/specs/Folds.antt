@@ -1,5 +1,6 @@
--- The code's session for one with the paper's counts. Each count is folded: it is what as many ticks of the code's count make of 0. That
--- the two run in step is `tick-in-step`, `frames-in-step` and `message-in-step` (proofs/InStep.antt).
+-- The code's session for one with the paper's counts. Each count is folded: it is what as many ticks of the code's
+-- count make of 0. That the two run in step is `tick-in-step`, `frames-in-step` and `message-in-step`
+-- (proofs/InStep.antt).
 use Prim.Native.Nat.{ℕ, zero, suc}
 use Rattle.session_states.specs.declared.phases.Phase.{Phase}
 use Rattle.session_states.specs.declared.phases.Phase.the-variants.{Drive, Rest, Hold}

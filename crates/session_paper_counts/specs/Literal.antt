@@ -1,7 +1,7 @@
--- A tick of the session with its counts as the paper has them (01, "Session by message": "each state has a count, 0 at its first tick";
--- "Session by tick": "silence grows by one at each such tick"): a state's count and, from Offered to Charging, silence are one more after
--- each tick, however long a state lasts; Idle counts nothing. Messages and frames are those of the code's session: they read the counts and
--- do not move them on.
+-- A tick of the session with its counts as the paper has them (01, "Session by message": "each state has a count, 0 at
+-- its first tick"; "Session by tick": "silence grows by one at each such tick"): a state's count and, from Offered to
+-- Charging, silence are one more after each tick, however long a state lasts; Idle counts nothing. Messages and frames
+-- are those of the code's session: they read the counts and do not move them on.
 use Prim.Native.Nat.{_+_}
 use Rattle.settings.specs.declared.Settings.{Settings}
 use Rattle.readings.specs.declared.Readings.{Readings}

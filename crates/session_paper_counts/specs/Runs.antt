@@ -1,4 +1,5 @@
--- A session's run: charge messages and ticks in any order, from any sources and with any readings and cells. The settings stay.
+-- A session's run: charge messages and ticks in any order, from any sources and with any readings and cells. The
+-- settings stay.
 use Prim.Native.Nat.{ℕ}
 use mathlib.Core.List.{List, [], _∷_}
 use Rattle.frames.specs.declared.Frame.{Frame}

@@ -1,5 +1,5 @@
--- The code's counts, which never overflow: each goes back, or stays, where no test of the paper can tell. That sessions with these counts
--- run in step with the paper's, which grow for ever, is shown in `session_paper_counts`.
+-- The code's counts, which never overflow: each goes back, or stays, where no test of the paper can tell. That sessions
+-- with these counts run in step with the paper's, which grow for ever, is shown in `session_paper_counts`.
 use Prim.Native.Nat.{ℕ, _+_}
 use mathlib.Core.Bool.{cond}
 use lib.Dec.{leb}

@@ -1,5 +1,5 @@
--- The phases of a charge (01, "Session by tick"). A phase's time is the ticks that it has had, so its first tick has time 0. A request R is
--- in tenths of an ampere.
+-- The phases of a charge (01, "Session by tick"). A phase's time is the ticks that it has had, so its first tick has
+-- time 0. A request R is in tenths of an ampere.
 use Prim.Native.Nat.{ℕ, _+_}
 use mathlib.Core.Bool.{Bool, cond}
 use lib.Dec.{leb, ltb}
@@ -17,13 +17,14 @@ use Rattle.session_states.specs.Counts.{nextUpTo}
 abbrev pub tooSmall : TenthAmps → Bool
 tooSmall request = ltb (request .0) leastRequest
 
--- Start: request R is the smaller of maximum current and the station's maximum. Where R is under 60, Hold starts instead
+-- Start: request R is the smaller of maximum current and the station's maximum. Where R is under 60, Hold starts
+-- instead
 unfoldable pub startPhase : TenthAmps → TenthAmps → Phase
 startPhase maximum station =
     cond (tooSmall (lesserAmps maximum station)) (Hold 0) (Drive (lesserAmps maximum station) 1 0)
 
--- Drive asks R for up to 18000 ticks; the next one stops. A cell at or above maximum turns Drive to Rest. A phase's time limit
--- comes before its cell rule
+-- Drive asks R for up to 18000 ticks; the next one stops. A cell at or above maximum turns Drive to Rest. A phase's
+-- time limit comes before its cell rule
 unfoldable pub driveRules : TenthAmps → ℕ → ℕ → Bool → PhaseAfter
 driveRules request cycle time cell =
     cond (leb driveLimit time) (Stop Other) (cond cell (On (Rest request cycle 0)) (On (Drive request cycle time)))
@@ -32,8 +33,8 @@ driveRules request cycle time cell =
 unfoldable pub holdRules : ℕ → Bool → PhaseAfter
 holdRules time cell = cond (leb holdLimit time) (Stop Other) (cond cell (Stop HoldCell) (On (Hold time)))
 
--- After Rest R is halved rounding down. Where R is under 60 or six Drives are done (no seventh Drive starts), Hold starts instead. A
--- phase's rules apply from its first tick
+-- After Rest R is halved rounding down. Where R is under 60 or six Drives are done (no seventh Drive starts), Hold
+-- starts instead. A phase's rules apply from its first tick
 unfoldable pub afterRest : TenthAmps → ℕ → Bool → PhaseAfter
 afterRest request cycle cell =
     cond (tooSmall (halvedAmps request)) (holdRules 0 cell)

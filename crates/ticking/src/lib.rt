@@ -1,6 +1,6 @@
-// What a tick sends, laid into the lent buffer: the session's frames, the broadcasts where they are due, and the cell frame where one is
-// due (01, "Session by tick", "Broadcasts and cell answers"). This crate may not know controllers, cell queries or refusals: its caller
-// shows that the buffer has room and that the cells were accepted.
+// What a tick sends, laid into the lent buffer: the session's frames, the broadcasts where they are due, and the cell
+// frame where one is due (01, "Session by tick", "Broadcasts and cell answers"). This crate may not know controllers,
+// cell queries or refusals: its caller shows that the buffer has room and that the cells were accepted.
 ghost use mathlib.Core.Bool.{cond};
 ghost use mathlib.Core.List.{[], _∷_, _++_};
 ghost use Prim.Native.Nat.{_+_, _*_, _≤_};
