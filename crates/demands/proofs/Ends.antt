@@ -69,11 +69,11 @@ refuses-early c g h = rw (early-in (c .settings) (c .session .count) (c .session
 module _ (x : Settings) (source : ℕ) (s : Session) (m : ChargeMessage) where
   pub which-message-ends-a-session : isIdle (s .state) ≡ false → isIdle (messageOf x source s m .session .state) ≡ messageEnds (s .state) (s .count) m
   unfolding messageOf appliedOf
-  which-message-ends-a-session = ends-message x source (s .station) (s .silence) (s .count) (s .state) m
+  which-message-ends-a-session = ends-message x source s (s .state) m
 
   pub which-message-ends-a-charge : isCharging (s .state) ≡ true → isCharging (messageOf x source s m .session .state) ≡ not (messageLeaves m)
   unfolding messageOf appliedOf
-  which-message-ends-a-charge = leaves-message x source (s .station) (s .silence) (s .count) (s .state) m
+  which-message-ends-a-charge = leaves-message x source s (s .state) m
 
 -- ---- frames
 module _ (c : Controller) (id : ℕ) (s : List ℕ) where

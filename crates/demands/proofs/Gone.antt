@@ -27,6 +27,7 @@ use Rattle.session_by_tick.specs.declared.Turn.{Turn}
 use Rattle.session_by_tick.specs.declared.Turn.the-variants as turn
 use Rattle.session_frames.specs.Layouts.{estFrame}
 use Rattle.session.specs.declared.Session.{Session}
+use Rattle.session.specs.Session.{withState}
 use Rattle.session.specs.Message.{sessionAfter, appliedOf, messageOf}
 use Rattle.session.specs.Frames.{estBytes, stoppingFrames, framesIn, framesOf}
 use Rattle.session.specs.Tick.{turnedBy, turnIn, sentOf}
@@ -53,9 +54,12 @@ Agrees gone s = isStopping (s .state) ≡ true → ltb 0 (s .count) ≡ gone
 
 -- ---- a message
 -- after it the count of Stopping is above 0 only if it was before
-module _ (x : Settings) (source a b n : ℕ) where
-  stopping-next : (st : State) (o : Outcome) → Leads x n st o → isStopping (sessionAfter source (mk a b n st) o .state) ≡ true
-      → ltb 0 (sessionAfter source (mk a b n st) o .count) ≡ (isStopping st && ltb 0 n)
+module _ (x : Settings) (source : ℕ) (s : Session) where
+  abbrev n : ℕ
+  n = s .count
+
+  stopping-next : (st : State) (o : Outcome) → Leads x n st o → isStopping (sessionAfter source (withState s st) o .state) ≡ true
+      → ltb 0 (sessionAfter source (withState s st) o .count) ≡ (isStopping st && ltb 0 n)
   unfolding isStopping sessionAfter
   stopping-next st o NotTaken h = rw h
   stopping-next st o NotInStep h = rw h
@@ -107,7 +111,7 @@ module _ (gone : Bool) (c : Controller) (h : Agrees gone (c .session)) where
   frame-agrees id l a (Took m says may k) =
       on-without (a .controller .session)
       (λ p. ap (λ (z : Answer). ltb 0 (z .controller .session .count)) k
-      ∙ stopping-next (c .settings) (partsOf id .source) (c .session .station) (c .session .silence) (c .session .count) (c .session .state) _
+      ∙ stopping-next (c .settings) (partsOf id .source) (c .session) (c .session .state) _
       (outcome-leads (c .settings) (c .session .count) (c .session .state) m)
       (ap (λ (z : Answer). isStopping (z .controller .session .state)) (sym k) ∙ p))
 

@@ -12,6 +12,7 @@ use Rattle.session_states.specs.declared.states.State.the-variants.{Idle, Offer
 use Rattle.session_by_message.specs.declared.Outcome.{Outcome}
 use Rattle.session_by_message.specs.Message.{outcomeOf, inOffered, inUnverified, inParameters, inReady, readyOf, crmInReady, inCharging, inStopping, inError}
 use Rattle.session.specs.declared.Session.{Session}
+use Rattle.session.specs.Session.{withState}
 use Rattle.session.specs.Message.{sessionAfter}
 use Rattle.session_states.specs.States.{isIdle}
 use Rattle.session_states.specs.Limits.{firstEcp}
@@ -23,9 +24,12 @@ use Rattle.demands.proofs.Tests.{same}
 abbrev pub mk : ℕ → ℕ → ℕ → State → Session
 mk station silence count st = record { station = station; silence = silence; count = count; state = st }
 
-module _ (x : Settings) (source a b n : ℕ) where
+module _ (x : Settings) (source : ℕ) (s : Session) where
+  abbrev n : ℕ
+  n = s .count
+
   abbrev pub idleAfter : State → Outcome → Bool
-  idleAfter st o = isIdle (sessionAfter source (mk a b n st) o .state)
+  idleAfter st o = isIdle (sessionAfter source (withState s st) o .state)
 
   cst-after : (st : State) (v g : Bool) (u w k : Outcome) → idleAfter st u ≡ true → idleAfter st w ≡ false → idleAfter st k ≡ false
       → idleAfter st (cond v (cond g u w) k) ≡ (v && g)
@@ -92,7 +96,7 @@ module _ (x : Settings) (source a b n : ℕ) where
   ends-message Error Cem h = refl
 
   abbrev pub chargingAfter : State → Outcome → Bool
-  chargingAfter st o = isCharging (sessionAfter source (mk a b n st) o .state)
+  chargingAfter st o = isCharging (sessionAfter source (withState s st) o .state)
 
   ccs-after : (st : State) (v : Bool) (u w : Outcome) → chargingAfter st u ≡ true → chargingAfter st w ≡ false
       → chargingAfter st (cond v u w) ≡ not (not v)

@@ -36,6 +36,7 @@ use Rattle.session_by_tick.specs.declared.Turn.{Turn}
 use Rattle.session_by_tick.specs.declared.Turn.the-variants as turn
 use Rattle.session_by_tick.specs.Turns.{currentAbove, stopOf, estThen, waitingOf, phaseOn, phaseTurn, stopsOf, chargingOf, stoppingOf, errorOf, turnOf, cellFull, packFull}
 use Rattle.session.specs.declared.Session.{Session}
+use Rattle.session.specs.Session.{withState}
 use Rattle.session.specs.Message.{sessionAfter, appliedOf, messageOf}
 use Rattle.session.specs.Tick.{turnedBy, turnIn}
 use Rattle.session_paper_counts.specs.Literal.{grown, counted, literalIn, literalAdvance, literalTick}
@@ -50,7 +51,6 @@ use Rattle.demands.specs.Silent.{isAcceptedTick, ticksIn}
 use Rattle.controller.specs.Frame.{sessionMoved}
 use Rattle.demands.proofs.Comes.{Comes, Left, Took, came}
 use Rattle.demands.proofs.Outcomes.{Leads, NotTaken, NotInStep, DoesNothing, OpensOne, ToUnverified, ToParameters, ToParametersLater, ToReady, ToReadyAgain, ToCharging, ToStopping, MarksIt, EndsIt, outcome-leads}
-use Rattle.demands.proofs.Messages.{mk}
 
 -- the accepted ticks since Idle that a state with this count needs, at the least
 unfoldable needs : State → ℕ → ℕ
@@ -67,10 +67,13 @@ unfoldable needed : Session → ℕ
 needed s = needs (s .state) (s .count)
 
 -- ---- a message
-module _ (x : Settings) (source a b n : ℕ) where
+module _ (x : Settings) (source : ℕ) (s : Session) where
+  abbrev n : ℕ
+  n = s .count
+
   -- what it comes to needs no more than there was
   abbrev NoMore : State → Outcome → Type 0
-  NoMore st o = needed (sessionAfter source (mk a b n st) o) ≤ needs st n
+  NoMore st o = needed (sessionAfter source (withState s st) o) ≤ needs st n
 
   -- CVM is taken once an EIM AA has gone out, after one tick at the least; CMP once an ECP has, after six ticks of
   -- Parameters; CRM once an ERM AA has since the last CMP, after one
@@ -103,7 +106,7 @@ frame-needs c id s a (Took m says may h) =
     omega (
       arith,
       e,
-      message-needs (c .settings) (partsOf id .source) (c .session .station) (c .session .silence) (c .session .count) (c .session .state) m,
+      message-needs (c .settings) (partsOf id .source) (c .session) (c .session .state) m,
     )
 
 -- ---- a tick

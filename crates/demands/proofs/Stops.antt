@@ -16,6 +16,8 @@ use Rattle.session_states.specs.declared.phases.PhaseAfter.{PhaseAfter}
 use Rattle.session_states.specs.declared.phases.PhaseAfter.the-variants as phase
 use Rattle.session_states.specs.Phases.{phaseAfter}
 use Rattle.session_by_tick.specs.Turns.{cellFull, turnOf}
+use Rattle.session.specs.declared.Session.{Session}
+use Rattle.session.specs.Session.{withState}
 use Rattle.session.specs.Tick.{turnedBy, turnIn}
 use Rattle.session_paper_counts.specs.Literal.{literalIn, literalAdvance, literalTick}
 use Rattle.controller.specs.declared.Controller.{Controller}
@@ -25,7 +27,6 @@ use Rattle.demands.specs.Events.{TickMade, accepts, after, noSession}
 use Rattle.session_states.specs.States.{isCharging}
 use Rattle.demands.specs.Stops.{Why, GoesOn, AtSilenceLimit, NotWantedBefore, NotWantedCharging, CurrentAbove, PackFull, TimeUp, CellFull, AtClosingLimit}
 use Rattle.demands.specs.Stops.{whyOf, ChargesAs, GoesOnAs, LeadsTo, endsFor, leavesFor}
-use Rattle.demands.proofs.Messages.{mk}
 use Rattle.demands.proofs.Reasons.{tick-why}
 
 pub charging-open : (st : State) → isCharging st ≡ true → isIdle st ≡ false
@@ -91,10 +92,10 @@ module _ (x : Settings) (r : Readings) (c : Cells) where
   leads-charging CellFull from to h e = ap isCharging e
   leads-charging AtClosingLimit from to h e = ap isCharging e
 
-  idle-in : (a b n : ℕ) (st : State) → st ≡ Idle → literalTick x r c (mk a b n st) ≡ mk a b n st
+  idle-in : (s : Session) (st : State) → st ≡ Idle → literalTick x r c (withState s st) ≡ withState s st
   unfolding literalTick literalAdvance literalIn turnedBy turnIn turnOf
-  idle-in a b n st h =
-      ap (λ (z : State). literalTick x r c (mk a b n z)) h ∙ ap (λ (z : State). mk a b n z) (sym h)
+  idle-in s st h =
+      ap (λ (z : State). literalTick x r c (withState s z)) h ∙ ap (λ (z : State). withState s z) (sym h)
 
 module _ (c : Controller) (r : Readings) (v : List ℕ) (t : List ℤ) (old : List ℕ) where
   abbrev why : Why
@@ -117,7 +118,7 @@ module _ (c : Controller) (r : Readings) (v : List ℕ) (t : List ℤ) (old : Li
   what-a-tick-does-in-idle h = either (accepts r v t old)
     where
       either : (b : Bool) → cond b (paperNext c r v t) c .session ≡ c .session
-      either true = idle-in (c .settings) r (cellsOf v t) (c .session .station) (c .session .silence) (c .session .count) (c .session .state) h
+      either true = idle-in (c .settings) r (cellsOf v t) (c .session) (c .session .state) h
       either false = refl
 
   pub which-tick-ends-a-session : noSession c ≡ false → noSession (after c (TickMade r v t old)) ≡ (accepts r v t old && endsFor why)

@@ -22,6 +22,7 @@ use Rattle.session_by_message.specs.declared.Outcome.the-variants.{Refuse, OutO
 use Rattle.session_by_message.specs.Message.{outcomeOf, inIdle, inOffered, inUnverified, inParameters, inReady, readyOf, crmInReady, inCharging, inStopping, inError}
 use Rattle.session_by_message.specs.Offer.{acceptedOf, stationMaximum}
 use Rattle.session.specs.declared.Session.{Session}
+use Rattle.session.specs.Session.{withState}
 use Rattle.session.specs.declared.Taken.{Taken}
 use Rattle.session.specs.Message.{appliedOf, sessionAfter, messageOf}
 use Rattle.session_paper_counts.specs.Folds.{fold, foldPhase, foldState, foldCount, folds}
@@ -46,12 +47,10 @@ gone-closing n = fold-ltb 0 closingLimit 0 n (omega arith)
 abbrev pub foldTaken : Taken → Taken
 foldTaken t = record { number = t .number; session = folds (t .session) }
 
-abbrev mk : ℕ → ℕ → ℕ → State → Session
-mk station silence count st = record { station = station; silence = silence; count = count; state = st }
-
 -- an outcome of a session in the state and one of its fold come to the same
 record Alike (st : State) (o o' : Outcome) : Type 0 where
-  alike : (source a b n : ℕ) → foldTaken (appliedOf source (mk a b n st) o) ≡ appliedOf source (folds (mk a b n st)) o'
+  alike : (source : ℕ) (s : Session)
+      → foldTaken (appliedOf source (withState s st) o) ≡ appliedOf source (folds (withState s st)) o'
 
 either : {st : State} (t : Bool) {u v u' v' : Outcome} → Alike st u u' → Alike st v v' → Alike st (cond t u v) (cond t u' v')
 either true h k = h
@@ -71,32 +70,32 @@ begins Error = refl
 
 refuse : {st : State} → Alike st Refuse Refuse
 unfolding appliedOf sessionAfter folds
-refuse = record { alike = λ source a b n. refl }
+refuse = record { alike = λ source s. refl }
 
 outOfStep : {st : State} → Alike st OutOfStep OutOfStep
 unfolding appliedOf sessionAfter folds fold
-outOfStep = record { alike = λ source a b n. refl }
+outOfStep = record { alike = λ source s. refl }
 
 opens : {st : State} → Alike st Open Open
 unfolding appliedOf sessionAfter folds foldState foldCount fold
-opens = record { alike = λ source a b n. refl }
+opens = record { alike = λ source s. refl }
 
 heard : {st : State} → Alike st Heard Heard
 unfolding appliedOf sessionAfter folds fold
-heard = record { alike = λ source a b n. refl }
+heard = record { alike = λ source s. refl }
 
 enter : {st : State} (later later' : State) → foldState later ≡ later' → Alike st (Enter later) (Enter later')
 unfolding appliedOf sessionAfter folds fold
-enter later later' e = record { alike = λ source a b n. rw (begins later, e) }
+enter later later' e = record { alike = λ source s. rw (begins later, e) }
 
 ends : {st : State} → Alike st End End
 unfolding appliedOf sessionAfter folds foldState foldCount fold
-ends = record { alike = λ source a b n. refl }
+ends = record { alike = λ source s. refl }
 
 -- Stopping that goes on leaves the count in the same cycle
 keeps : (acknowledged : Bool) (est : Est) → Alike (Stopping acknowledged est) (Keep (Stopping true est)) (Keep (Stopping true est))
 unfolding appliedOf sessionAfter folds foldState foldCount fold
-keeps acknowledged est = record { alike = λ source a b n. refl }
+keeps acknowledged est = record { alike = λ source s. refl }
 
 parameters : {st : State} → Alike st (Enter Parameters) (Enter Parameters)
 unfolding foldState
@@ -180,4 +179,4 @@ outcome-alike x Error n Cem = ends
 pub message-folds : (x : Settings) (source : ℕ) (s : Session) (m : ChargeMessage) → foldTaken (messageOf x source s m) ≡ messageOf x source (folds s) m
 unfolding messageOf folds
 message-folds x source s m =
-    outcome-alike x (s .state) (s .count) m .alike source (s .station) (s .silence) (s .count)
+    outcome-alike x (s .state) (s .count) m .alike source s

@@ -30,6 +30,7 @@ use Rattle.session_by_tick.specs.declared.Turn.the-variants.{On, Enter, Farewel
 use Rattle.session_by_tick.specs.Turns.{turnOf, waitingOf, chargingOf, stopsOf, stopOf, phaseTurn, phaseOn, cellFull, packFull, currentAbove, stoppingOf, estThen, errorOf}
 use Rattle.session_frames.specs.Layouts.{eimOf, evmOf, ermOf, ecrOf, ecsOf, esmOf}
 use Rattle.session.specs.declared.Session.{Session}
+use Rattle.session.specs.Session.{withSilence, withCount, withState}
 use Rattle.session.specs.Frames.{isFifth, each5, parametersFrames, chargingFrames, framesIn, framesOf}
 use Rattle.session.specs.Tick.{turnIn, turnedBy, waitedOf, closingOf, advanceIn, advanceOf}
 use Rattle.session_paper_counts.specs.Literal.{older, grown, counted, literalIn, literalAdvance}
@@ -43,33 +44,34 @@ older-folds (Drive request cycle time) = rw (fold-next (nextUpTo driveLimit) tim
 older-folds (Rest request cycle time) = rw (fold-next (nextUpTo restLimit) time)
 older-folds (Hold time) = rw (fold-next (nextUpTo holdLimit) time)
 
-abbrev mk : ℕ → ℕ → ℕ → State → Session
-mk station silence count st = record { station = station; silence = silence; count = count; state = st }
+-- what is shown of a session in a state is shown whatever the rest of it is
+waited-folds : (s : Session) (next : ℕ → ℕ) (st : State) →
+    withState (withCount (withSilence s (fold (nextUpTo silenceLimit) (s .silence + 1))) (fold next (s .count + 1))) st
+    ≡ withState
+    (withCount (withSilence s (nextUpTo silenceLimit (fold (nextUpTo silenceLimit) (s .silence)))) (next (fold next (s .count))))
+    st
+waited-folds s next st = rw (fold-next (nextUpTo silenceLimit) (s .silence), fold-next next (s .count))
 
-waited-folds : (a b n : ℕ) (next : ℕ → ℕ) (st : State) →
-    mk a (fold (nextUpTo silenceLimit) (b + 1)) (fold next (n + 1)) st
-    ≡ mk a (nextUpTo silenceLimit (fold (nextUpTo silenceLimit) b)) (next (fold next n)) st
-waited-folds a b n next st = rw (fold-next (nextUpTo silenceLimit) b, fold-next next n)
+counted-folds : (s : Session) (n : ℕ) (st : State) →
+    withState (withCount s (fold (nextUpTo closingLimit) (n + 1))) st
+    ≡ withState (withCount s (nextUpTo closingLimit (fold (nextUpTo closingLimit) n))) st
+counted-folds s n st = rw (fold-next (nextUpTo closingLimit) n)
 
-counted-folds : (a b n : ℕ) (st : State) →
-    mk a b (fold (nextUpTo closingLimit) (n + 1)) st ≡ mk a b (nextUpTo closingLimit (fold (nextUpTo closingLimit) n)) st
-counted-folds a b n st = rw (fold-next (nextUpTo closingLimit) n)
-
-advance-in : (a b n : ℕ) (st : State) → folds (literalIn (mk a b n st) st) ≡ advanceIn (folds (mk a b n st)) (foldState st)
+advance-in : (s : Session) (st : State) → folds (literalIn (withState s st) st) ≡ advanceIn (folds (withState s st)) (foldState st)
 unfolding folds foldState foldCount literalIn grown counted advanceIn waitedOf closingOf
-advance-in a b n Idle = refl
-advance-in a b n Offered = waited-folds a b n nextEachFive Offered
-advance-in a b n Unverified = waited-folds a b n nextEachFive Unverified
-advance-in a b n Parameters = waited-folds a b n nextEcp Parameters
-advance-in a b n (Ready accepted maximum) = waited-folds a b n nextEachFive (Ready accepted maximum)
-advance-in a b n (Charging p) = rw (older-folds p) (waited-folds a b n nextEachFive (Charging (agedOf (foldPhase p))))
-advance-in a b n (Stopping acknowledged est) =
-    counted-folds a (fold (nextUpTo silenceLimit) b) n (Stopping acknowledged est)
-advance-in a b n Error = counted-folds a (fold (nextUpTo silenceLimit) b) n Error
+advance-in s Idle = refl
+advance-in s Offered = waited-folds s nextEachFive Offered
+advance-in s Unverified = waited-folds s nextEachFive Unverified
+advance-in s Parameters = waited-folds s nextEcp Parameters
+advance-in s (Ready accepted maximum) = waited-folds s nextEachFive (Ready accepted maximum)
+advance-in s (Charging p) = rw (older-folds p) (waited-folds s nextEachFive (Charging (agedOf (foldPhase p))))
+advance-in s (Stopping acknowledged est) =
+    counted-folds (withSilence s (fold (nextUpTo silenceLimit) (s .silence))) (s .count) (Stopping acknowledged est)
+advance-in s Error = counted-folds (withSilence s (fold (nextUpTo silenceLimit) (s .silence))) (s .count) Error
 
 pub advance-folds : (s : Session) → folds (literalAdvance s) ≡ advanceOf (folds s)
 unfolding folds literalAdvance advanceOf
-advance-folds s = advance-in (s .station) (s .silence) (s .count) (s .state)
+advance-folds s = advance-in s (s .state)
 
 -- ---- the frames of a state
 -- Stopping and Error have frames up to their limit only, where the count is its own fold; in the other states any count will do
@@ -206,7 +208,7 @@ module _ (x : Settings) (r : Readings) (c : Cells) where
 -- ---- the session after the state change
 -- a state that goes on leaves the count in the same cycle; one that begins has count 0, which is its own fold
 record Steps (st : State) (t : Turn) : Type 0 where
-  steps : (a b n : ℕ) → folds (turnedBy (mk a b n st) t) ≡ turnedBy (folds (mk a b n st)) (foldTurn t)
+  steps : (s : Session) → folds (turnedBy (withState s st) t) ≡ turnedBy (folds (withState s st)) (foldTurn t)
 
 either : {st : State} (t : Bool) {u v : Turn} → Steps st u → Steps st v → Steps st (cond t u v)
 either true h k = h
@@ -214,32 +216,32 @@ either false h k = k
 
 error : {st : State} → Steps st (Enter Error)
 unfolding folds turnedBy foldCount foldState fold
-error = record { steps = λ a b n. refl }
+error = record { steps = λ s. refl }
 
 farewell : {st : State} → Steps st Farewell
 unfolding folds turnedBy foldCount foldState fold
-farewell = record { steps = λ a b n. refl }
+farewell = record { steps = λ s. refl }
 
 ends : {st : State} → Steps st End
 unfolding folds turnedBy foldCount foldState fold
-ends = record { steps = λ a b n. refl }
+ends = record { steps = λ s. refl }
 
 on : (st : State) → Steps st (On st)
 unfolding folds turnedBy
-on st = record { steps = λ a b n. refl }
+on st = record { steps = λ s. refl }
 
 stays : (k : Bool) (est later : Est) → Steps (Stopping k est) (On (Stopping k later))
 unfolding folds turnedBy foldCount foldState
-stays k est later = record { steps = λ a b n. refl }
+stays k est later = record { steps = λ s. refl }
 
 module _ (x : Settings) (r : Readings) (c : Cells) where
   stop : {st : State} (cause : Cause) → Steps st (stopOf x r c cause)
   unfolding folds turnedBy stopOf foldCount foldState fold
-  stop cause = record { steps = λ a b n. refl }
+  stop cause = record { steps = λ s. refl }
 
   by-phase : (p : Phase) (t : PhaseAfter) → Steps (Charging p) (phaseOn x r c t)
   unfolding phaseOn folds turnedBy foldCount foldState
-  by-phase p (phase.On q) = record { steps = λ a b n. refl }
+  by-phase p (phase.On q) = record { steps = λ s. refl }
   by-phase p (phase.Stop cause) = stop cause
 
   waiting-steps : (st : State) (b : ℕ) → Steps st (waitingOf r b st)
@@ -274,7 +276,7 @@ module _ (x : Settings) (r : Readings) (c : Cells) where
   pub turned-folds : (s : Session) → folds (turnedBy s (turnIn x r c s)) ≡ turnedBy (folds s) (turnIn x r c (folds s))
   unfolding turnIn
   turned-folds s =
-      turn-steps (s .state) (s .count) (s .silence) .steps (s .station) (s .silence) (s .count)
+      turn-steps (s .state) (s .count) (s .silence) .steps s
       ∙ ap (turnedBy (folds s)) (turn-in s)
 
   -- the state that a turn leaves has a count that fits it
