@@ -56,4 +56,5 @@ module _ (c : Controller) (r : Readings) (v : List ℕ) (t : List ℤ) where
     pub number : k .number ≡ tickNumber r v t (length old)
     pub bytes : k .bytes ≡ cond (accepted (length old)) (recordSize * length tickFrames) 0
     pub next : k .controller ≡ cond (accepted (length old)) tickNext c
-    pub later : new ≡ cond (accepted (length old)) (recordsOf tickFrames ++ drop (recordSize * length tickFrames) old) old
+    pub later : new
+        ≡ cond (accepted (length old)) (recordsOf tickFrames ++ drop (recordSize * length tickFrames) old) old

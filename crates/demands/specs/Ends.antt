@@ -46,7 +46,8 @@ messageLeaves Cem = true
 -- tick: it is accepted, and charge is not wanted before Charging, or Stopping or Error are at count 600. New settings,
 -- which make a fresh controller
 pub data EndsSession (gone : Bool) (c : Controller) : Event → Type 0 where
-  ByCem : {id : ℕ} {s : List ℕ} → Says (c .settings) (c .session .station) Cem id s → EndsSession gone c (FrameReceived id s)
+  ByCem : {id : ℕ} {s : List ℕ} → Says (c .settings) (c .session .station) Cem id s
+      → EndsSession gone c (FrameReceived id s)
   ByCst : {id : ℕ} {s : List ℕ} → Says (c .settings) (c .session .station) (Cst true) id s
       → isStopping (c .session .state) ≡ true → gone ≡ true → EndsSession gone c (FrameReceived id s)
   ByTick : {r : Readings} {v : List ℕ} {t : List ℤ} {old : List ℕ} → accepts r v t old ≡ true
@@ -56,8 +57,10 @@ pub data EndsSession (gone : Bool) (c : Controller) : Event → Type 0 where
 -- and what ends a charge. A frame: it comes from the session's station, no check refuses it, and it is CCS 00, CST of
 -- either value, or CEM. A tick: it is accepted, and one of the rules that leave Charging holds. New settings
 pub data EndsCharge (c : Controller) : Event → Type 0 where
-  AtCcs : {id : ℕ} {s : List ℕ} → Says (c .settings) (c .session .station) (Ccs false) id s → EndsCharge c (FrameReceived id s)
-  AtCst : {id : ℕ} {s : List ℕ} {b : Bool} → Says (c .settings) (c .session .station) (Cst b) id s → EndsCharge c (FrameReceived id s)
+  AtCcs : {id : ℕ} {s : List ℕ} → Says (c .settings) (c .session .station) (Ccs false) id s
+      → EndsCharge c (FrameReceived id s)
+  AtCst : {id : ℕ} {s : List ℕ} {b : Bool} → Says (c .settings) (c .session .station) (Cst b) id s
+      → EndsCharge c (FrameReceived id s)
   AtCem : {id : ℕ} {s : List ℕ} → Says (c .settings) (c .session .station) Cem id s → EndsCharge c (FrameReceived id s)
   AtTick : {r : Readings} {v : List ℕ} {t : List ℤ} {old : List ℕ} → accepts r v t old ≡ true
       → leavesFor (whyOf (c .settings) r (cellsOf v t) (c .session)) ≡ true → EndsCharge c (TickMade r v t old)

@@ -23,7 +23,8 @@ sendsEst c e = holdsEst c (framesSeen (seenOf paperNext (Using c) (callOf e)))
 -- after one event more: the session is in Stopping, and one had gone out while it was in Stopping before, or goes out
 -- now
 unfoldable pub goneAfter : Bool → Controller → Event → Bool
-goneAfter gone c e = isStopping (after c e .session .state) && ((isStopping (c .session .state) && gone) || sendsEst c e)
+goneAfter gone c e =
+    isStopping (after c e .session .state) && ((isStopping (c .session .state) && gone) || sendsEst c e)
 
 -- after a run
 unfoldable pub estGone : Bool → Controller → List Event → Bool

@@ -49,7 +49,9 @@ pub data Seen : Type 0 where
 unfoldable pub paperNext : Controller → Readings → List ℕ → List ℤ → Controller
 paperNext c r v t =
     withQueries
-    (withBeat (withSession c (literalTick (c .settings) r (cellsOf v t) (c .session))) (record { tick = c .beat .tick + 1 }))
+    (withBeat
+    (withSession c (literalTick (c .settings) r (cellsOf v t) (c .session)))
+    (record { tick = c .beat .tick + 1 }))
     (queriesOf (waitingAfter v t (waiting (c .queries))))
 
 -- a settings record that is refused yields no controller: the one in use stays

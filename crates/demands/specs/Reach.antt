@@ -89,7 +89,8 @@ module _ (x : Settings) (st : ℕ) (o : Offer) where
   -- over a list of events, from a place `n` accepted ticks into a stretch and `b` after the station was last heeded,
   -- the station follows the handshake up to its CRM AA
   pub data Follows : Stretch → ℕ → ℕ → List Event → Type 0 where
-    Passes : {k : Stretch} {n b : ℕ} {e : Event} {es : List Event} → Passing x st e → Follows k n b es → Follows k n b (e ∷ es)
+    Passes : {k : Stretch} {n b : ℕ} {e : Event} {es : List Event}
+        → Passing x st e → Follows k n b es → Follows k n b (e ∷ es)
     -- an accepted tick: charge is wanted, and fewer than 200 have gone by since the station was last heeded
     Ticks : {k : Stretch} {n b : ℕ} {r : Readings} {v : List ℕ} {t : List ℤ} {old : List ℕ} {es : List Event}
         → accepts r v t old ≡ true → wantedOf r ≡ true → b < silenceLimit
@@ -98,13 +99,16 @@ module _ (x : Settings) (st : ℕ) (o : Offer) where
         → Says x st m id s → besides k n m ≡ true → Follows k n 0 es → Follows k n b (FrameReceived id s ∷ es)
     -- after at least 1 tick CVM: 00, and AA at any time later, or AA at once
     Delays : {n b id : ℕ} {s : List ℕ} {es : List Event}
-        → Says x st (Cvm false) id s → 1 ≤ n → Follows UntilVerified 0 0 es → Follows UntilCvm n b (FrameReceived id s ∷ es)
+        → Says x st (Cvm false) id s → 1 ≤ n
+        → Follows UntilVerified 0 0 es → Follows UntilCvm n b (FrameReceived id s ∷ es)
     VerifiesLater : {n b id : ℕ} {s : List ℕ} {es : List Event}
         → Says x st (Cvm true) id s → Follows UntilCmp 0 0 es → Follows UntilVerified n b (FrameReceived id s ∷ es)
     Verifies : {n b id : ℕ} {s : List ℕ} {es : List Event}
         → Says x st (Cvm true) id s → 1 ≤ n → Follows UntilCmp 0 0 es → Follows UntilCvm n b (FrameReceived id s ∷ es)
     -- after at least 6 ticks a CMP that the yes rule accepts
     Offers : {n b id : ℕ} {s : List ℕ} {es : List Event}
-        → Says x st (Cmp o) id s → acceptedOf x o ≡ true → firstEcp + 1 ≤ n → Follows UntilCrm 0 0 es → Follows UntilCmp n b (FrameReceived id s ∷ es)
+        → Says x st (Cmp o) id s → acceptedOf x o ≡ true → firstEcp + 1 ≤ n
+        → Follows UntilCrm 0 0 es → Follows UntilCmp n b (FrameReceived id s ∷ es)
     -- after at least 1 tick CRM AA
-    Starts : {n b id : ℕ} {s : List ℕ} → Says x st (Crm true) id s → 1 ≤ n → Follows UntilCrm n b (FrameReceived id s ∷ [])
+    Starts : {n b id : ℕ} {s : List ℕ}
+        → Says x st (Crm true) id s → 1 ≤ n → Follows UntilCrm n b (FrameReceived id s ∷ [])

@@ -32,7 +32,8 @@ isHandshake Cem = false
 -- over a list of events the station `st` says these charge messages and no others, as often as it likes
 unfoldable pub SaysOnly : (ChargeMessage → Bool) → Settings → ℕ → List Event → Type 0
 SaysOnly these x st [] = Unit {0}
-SaysOnly these x st (FrameReceived id s ∷ es) = ((m : ChargeMessage) → Says x st m id s → these m ≡ true) × SaysOnly these x st es
+SaysOnly these x st (FrameReceived id s ∷ es) =
+    ((m : ChargeMessage) → Says x st m id s → these m ≡ true) × SaysOnly these x st es
 SaysOnly these x st (TickMade r v t old ∷ es) = SaysOnly these x st es
 SaysOnly these x st (RecordWritten old ∷ es) = SaysOnly these x st es
 SaysOnly these x st (RecordRead s ∷ es) = SaysOnly these x st es

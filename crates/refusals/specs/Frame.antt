@@ -53,7 +53,8 @@ unfoldable pub frameNumber : ℕ → ℕ → List ℕ → ℕ
 frameNumber own id s =
     cond (notCan id s) 3
     (cond (flagsSet (partsOf id)) 4
-    (cond (notForUs own (partsOf id)) 5 (cond (badSource own (partsOf id)) 6 (knownNumber s (recognizedOf (partsOf id .pf))))))
+    (cond (notForUs own (partsOf id)) 5
+    (cond (badSource own (partsOf id)) 6 (knownNumber s (recognizedOf (partsOf id .pf))))))
 
 -- 9: Idle: source not in the list; else: not the session's station
 unfoldable pub listed : ℕ → Stations → Bool

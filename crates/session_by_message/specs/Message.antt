@@ -89,7 +89,9 @@ inParameters x count Cem = endByCem
 -- and FF stay
 unfoldable pub crmInReady : Settings → Bool → TenthAmps → ℕ → Bool → Outcome
 crmInReady x accepted maximum count b =
-    cond (accepted && goneOut 0 count) (cond b (Enter (Charging (startPhase (x .limits .current) maximum))) Heard) OutOfStep
+    cond (accepted && goneOut 0 count)
+    (cond b (Enter (Charging (startPhase (x .limits .current) maximum))) Heard)
+    OutOfStep
 
 unfoldable pub inReady : Settings → Bool → TenthAmps → ℕ → ChargeMessage → Outcome
 inReady x accepted maximum count Cim = Refuse

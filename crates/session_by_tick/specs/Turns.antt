@@ -44,7 +44,10 @@ isOther Other = true
 -- the cause is neither pack voltage nor a cell in Hold
 unfoldable pub estFirst : Settings → Readings → Cells → Cause → ℕ
 estFirst x r c cause =
-    cond (eqb (r .soc) 100) 0x01 0 + cond (packFull x r) 0x04 0 + cond (cellFull x c) 0x10 0 + cond (isOther cause) 0x40 0
+    cond (eqb (r .soc) 100) 0x01 0
+    + cond (packFull x r) 0x04 0
+    + cond (cellFull x c) 0x10 0
+    + cond (isOther cause) 0x40 0
 
 -- byte 2 is 01 if current is above maximum, else 00
 unfoldable pub estSecond : Settings → Readings → ℕ
@@ -89,7 +92,8 @@ estThen x r c (Fixed first second) = Fixed first second
 
 -- Stopping and Error end to Idle at count 600
 unfoldable pub stoppingOf : Settings → Readings → Cells → ℕ → Bool → Est → Turn
-stoppingOf x r c count acknowledged est = cond (leb closingLimit count) End (On (Stopping acknowledged (estThen x r c est)))
+stoppingOf x r c count acknowledged est =
+    cond (leb closingLimit count) End (On (Stopping acknowledged (estThen x r c est)))
 
 unfoldable pub errorOf : ℕ → Turn
 errorOf count = cond (leb closingLimit count) End (On Error)

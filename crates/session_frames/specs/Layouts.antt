@@ -99,7 +99,10 @@ edmOf x station r c =
     (r .soc
     ∷ (wordBytes (lowestVoltage (c .volts) .0)
     ++ (wordBytes (highestVoltage (c .volts) .0)
-    ++ (temperatureByte (lowestTemperature (c .heat) .0) ∷ temperatureByte (highestTemperature (c .heat) .0) ∷ 0 ∷ []))))
+    ++ (temperatureByte (lowestTemperature (c .heat) .0)
+    ∷ temperatureByte (highestTemperature (c .heat) .0)
+    ∷ 0
+    ∷ []))))
 
 -- EEM 10 00 00
 unfoldable pub eemOf : Settings → ℕ → Frame
