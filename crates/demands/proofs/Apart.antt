@@ -33,8 +33,8 @@ use Rattle.controller.specs.Frame.{frameTo}
 use Rattle.controller.specs.Tick.{accepted, chargeFrames}
 use Rattle.controller.specs.Start.{freshOf, startWith, startOf}
 use Rattle.demands.specs.Says.{chargeOf, Says}
-use Rattle.demands.specs.Machine.{started, Using, paperNext, boxAfter}
-use Rattle.demands.specs.Events.{Event, FrameReceived, TickMade, RecordWritten, RecordRead, callOf, accepts, readInto, isRead, after, noSession, queryIn, isQuery}
+use Rattle.demands.specs.Machine.{Call, Receive, Tick, Write, Read, started, Using, paperNext, boxAfter}
+use Rattle.demands.specs.After.{accepts, readInto, isRead, after, noSession, queryIn, isQuery}
 use Rattle.demands.specs.Apart.{fromStation, reaches, reaching, Moment, AfterFrame, sentAt, moments, life, Alike}
 use Rattle.controller.specs.Frame.{sessionMoved, queriesMoved}
 use Rattle.demands.proofs.View.{pf-is, View, Refused, Asks, Charges, view}
@@ -45,13 +45,13 @@ unfolding started startWith readInto
 read-into (read.Read x) c = refl
 read-into (read.Refused n) c = refl
 
--- the controller after an event is the machine's
-pub after-is : (c : Controller) (e : Event) → boxAfter paperNext (Using c) (callOf e) ≡ Using (after c e)
+-- the controller after an call is the machine's
+pub after-is : (c : Controller) (e : Call) → boxAfter paperNext (Using c) e ≡ Using (after c e)
 unfolding boxAfter after accepted accepts startOf
-after-is c (FrameReceived id s) = refl
-after-is c (TickMade r v t old) = refl
-after-is c (RecordWritten old) = refl
-after-is c (RecordRead s) = read-into (readOf s) c
+after-is c (Receive id s) = refl
+after-is c (Tick r v t old) = refl
+after-is c (Write old) = refl
+after-is c (Read s) = read-into (readOf s) c
 
 -- ---- a frame that cannot reach the session leaves it as it was
 -- by what it says a source is the frame's source, and the frame is no query
@@ -124,16 +124,16 @@ module _ (c : Controller) (o : noSession c ≡ false) where
   kept-read (read.Read x) h = absurd (false≢true (sym h))
   kept-read (read.Refused n) h = refl
 
-  pub kept-event : (e : Event) → Kept (c .session .station) (after c e .session)
+  pub kept-call : (e : Call) → Kept (c .session .station) (after c e .session)
   unfolding after paperNext
-  kept-event (FrameReceived id s) = kept-frame id s (frameTo c id s) (came c id s)
-  kept-event (TickMade r v t old) = kept-choice (c .session .station) (accepts r v t old) (paperNext c r v t) refl (kept-tick (c .settings) r _ (c .session))
-  kept-event (RecordWritten old) = λ h. refl
-  kept-event (RecordRead s) = kept-read (readOf s)
+  kept-call (Receive id s) = kept-frame id s (frameTo c id s) (came c id s)
+  kept-call (Tick r v t old) = kept-choice (c .session .station) (accepts r v t old) (paperNext c r v t) refl (kept-tick (c .settings) r _ (c .session))
+  kept-call (Write old) = λ h. refl
+  kept-call (Read s) = kept-read (readOf s)
 
-pub kept-open : (c : Controller) (e : Event) → noSession c ≡ false → noSession (after c e) ≡ false → after c e .session .station ≡ c .session .station
+pub kept-open : (c : Controller) (e : Call) → noSession c ≡ false → noSession (after c e) ≡ false → after c e .session .station ≡ c .session .station
 unfolding noSession
-kept-open c e o h = kept-event c o e h
+kept-open c e o h = kept-call c o e h
 
 and-not : (a b : Bool) → (a && not b) ≡ true → b ≡ false
 and-not true true h = absurd (false≢true h)
@@ -180,12 +180,12 @@ module _ (c d : Controller) (a : Alike c d) where
   alike-read (read.Read x) = record { settings = refl; session = refl }
   alike-read (read.Refused n) = a
 
-  pub alike-event : (e : Event) → Alike (after c e) (after d e)
+  pub alike-call : (e : Call) → Alike (after c e) (after d e)
   unfolding after
-  alike-event (FrameReceived id s) = same-frame id s .alike
-  alike-event (TickMade r v t old) = alike-choice (accepts r v t old) _ _ (alike-next r v t)
-  alike-event (RecordWritten old) = a
-  alike-event (RecordRead s) = alike-read (readOf s)
+  alike-call (Receive id s) = same-frame id s .alike
+  alike-call (Tick r v t old) = alike-choice (accepts r v t old) _ _ (alike-next r v t)
+  alike-call (Write old) = a
+  alike-call (Read s) = alike-read (readOf s)
 
   told : (id : ℕ) (l : List ℕ) (t : Bool) → (t ≡ true → isQuery id ≡ false)
       → cond t (AfterFrame (frameTo c id l .number) (frameTo c id l .controller .session) ∷ []) []
@@ -197,41 +197,41 @@ module _ (c d : Controller) (a : Alike c d) where
   unfolding chargeFrames
   sent-same r v t = rw (a .settings, a .session)
 
-  pub same-moments : (e : Event) → moments c e ≡ moments d e
+  pub same-moments : (e : Call) → moments c e ≡ moments d e
   unfolding moments sentAt
-  same-moments (FrameReceived id s) =
+  same-moments (Receive id s) =
       told id s (fromStation (c .session .station) id) (no-query (c .session .station) id)
       ∙ ap (λ (z : Session). cond (fromStation (z .station) id) (AfterFrame (frameTo d id s .number) (frameTo d id s .controller .session) ∷ []) []) (a .session)
-  same-moments (TickMade r v t old) = rw (sent-same r v t, alike-event (TickMade r v t old) .session)
-  same-moments (RecordWritten old) = refl
-  same-moments (RecordRead s) = refl
+  same-moments (Tick r v t old) = rw (sent-same r v t, alike-call (Tick r v t old) .session)
+  same-moments (Write old) = refl
+  same-moments (Read s) = refl
 
--- ---- an event that does not reach the session leaves it as it was, and is not seen
+-- ---- an call that does not reach the session leaves it as it was, and is not seen
 unread : (a : SettingsRead) (c : Controller) → isRead a ≡ false → Alike (readInto a c) c
 unfolding isRead readInto
 unread (read.Read x) c h = absurd (false≢true (sym h))
 unread (read.Refused n) c h = record { settings = refl; session = refl }
 
-pub unreached : (c : Controller) (e : Event) → noSession c ≡ false → reaches (c .session .station) e ≡ false → Alike (after c e) c
+pub unreached : (c : Controller) (e : Call) → noSession c ≡ false → reaches (c .session .station) e ≡ false → Alike (after c e) c
 unfolding after reaches
-unreached c (FrameReceived id s) o h = record { settings = kept-settings c id s; session = unreached-stays c id s (frameTo c id s) (came c id s) o h }
-unreached c (TickMade r v t old) o h = absurd (false≢true (sym h))
-unreached c (RecordWritten old) o h = record { settings = refl; session = refl }
-unreached c (RecordRead s) o h = unread (readOf s) c h
+unreached c (Receive id s) o h = record { settings = kept-settings c id s; session = unreached-stays c id s (frameTo c id s) (came c id s) o h }
+unreached c (Tick r v t old) o h = absurd (false≢true (sym h))
+unreached c (Write old) o h = record { settings = refl; session = refl }
+unreached c (Read s) o h = unread (readOf s) c h
 
-unseen : (c : Controller) (e : Event) → reaches (c .session .station) e ≡ false → moments c e ≡ []
+unseen : (c : Controller) (e : Call) → reaches (c .session .station) e ≡ false → moments c e ≡ []
 unfolding moments reaches
-unseen c (FrameReceived id s) h = rw h
-unseen c (TickMade r v t old) h = absurd (false≢true (sym h))
-unseen c (RecordWritten old) h = refl
-unseen c (RecordRead s) h = rw h
+unseen c (Receive id s) h = rw h
+unseen c (Tick r v t old) h = absurd (false≢true (sym h))
+unseen c (Write old) h = refl
+unseen c (Read s) h = rw h
 
--- ---- a session's life over the events is its life over those that can reach it
+-- ---- a session's life over the calls is its life over those that can reach it
 -- the rest of a life, as long as there is a session
-rest : Controller → List Event → List Moment
+rest : Controller → List Call → List Moment
 rest c es = cond (noSession c) [] (life c es)
 
-rest-open : (c : Controller) (es : List Event) → noSession c ≡ false → rest c es ≡ life c es
+rest-open : (c : Controller) (es : List Call) → noSession c ≡ false → rest c es ≡ life c es
 unfolding rest
 rest-open c es o = rw o
 
@@ -239,7 +239,7 @@ pub same-noSession : (c d : Controller) → Alike c d → noSession c ≡ noSess
 unfolding noSession
 same-noSession c d a = rw (a .session)
 
-after-both : (c d : Controller) (es fs : List Event) → Alike c d → (noSession c ≡ false → life c es ≡ life d fs) → rest c es ≡ rest d fs
+after-both : (c d : Controller) (es fs : List Call) → Alike c d → (noSession c ≡ false → life c es ≡ life d fs) → rest c es ≡ rest d fs
 unfolding rest
 after-both c d es fs a f =
     both (noSession c) refl ∙ ap (λ (t : Bool). cond t [] (life d fs)) (same-noSession c d a)
@@ -254,17 +254,17 @@ back c d a = record { settings = sym (a .settings); session = sym (a .session) }
 pub then : (c d e : Controller) → Alike c d → Alike d e → Alike c e
 then c d e a b = record { settings = a .settings ∙ b .settings; session = a .session ∙ b .session }
 
-Alone : ℕ → List Event → Type 0
+Alone : ℕ → List Call → Type 0
 Alone st es = (c d : Controller) → Alike c d → c .session .station ≡ st → noSession c ≡ false → life c es ≡ life d (reaching st es)
 
-one-more : (st : ℕ) (e : Event) (es : List Event) → Alone st es → (c d : Controller) → Alike c d → c .session .station ≡ st → noSession c ≡ false
+one-more : (st : ℕ) (e : Call) (es : List Call) → Alone st es → (c d : Controller) → Alike c d → c .session .station ≡ st → noSession c ≡ false
     → (t : Bool) → reaches st e ≡ t → moments c e ++ rest (after c e) es ≡ life d (cond t (e ∷ reaching st es) (reaching st es))
 unfolding Alone life rest
 one-more st e es ih c d a k o true h =
     ap (λ (m : List Moment). m ++ rest (after c e) es) (same-moments c d a e)
     ∙ ap (λ (l : List Moment). moments d e ++ l)
-    (after-both (after c e) (after d e) es (reaching st es) (alike-event c d a e)
-    (λ p. ih (after c e) (after d e) (alike-event c d a e) (kept-open c e o p ∙ k) p))
+    (after-both (after c e) (after d e) es (reaching st es) (alike-call c d a e)
+    (λ p. ih (after c e) (after d e) (alike-call c d a e) (kept-open c e o p ∙ k) p))
 one-more st e es ih c d a k o false h =
     let u : Alike (after c e) c = unreached c e o (ap (λ (z : ℕ). reaches z e) k ∙ h) in
     let p : noSession (after c e) ≡ false = same-noSession (after c e) c u ∙ o in
@@ -272,15 +272,15 @@ one-more st e es ih c d a k o false h =
     ∙ (rest-open (after c e) es p
     ∙ ih (after c e) d (then (after c e) c d u a) (ap (λ (z : Session). z .station) (u .session) ∙ k) p)
 
-alone : (st : ℕ) (es : List Event) → Alone st es
+alone : (st : ℕ) (es : List Call) → Alone st es
 unfolding Alone life reaching rest
 alone st [] c d a k o = refl
 alone st (e ∷ es) c d a k o = one-more st e es (alone st es) c d a k o (reaches st e) refl
 
--- two controllers with the same settings and the same open session, and two lists of events by which the same reaches
+-- two controllers with the same settings and the same open session, and two lists of calls by which the same reaches
 -- the session: the session ends at the same place in both or in neither, and everything that is seen of it up to there
 -- agrees
-pub undisturbed : (c d : Controller) (ks ls : List Event) → noSession c ≡ false → Alike c d
+pub undisturbed : (c d : Controller) (ks ls : List Call) → noSession c ≡ false → Alike c d
     → reaching (c .session .station) ks ≡ reaching (c .session .station) ls → life c ks ≡ life d ls
 unfolding Alone
 undisturbed c d ks ls o a h =

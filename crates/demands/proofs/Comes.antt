@@ -26,7 +26,7 @@ use Rattle.controller.specs.declared.Answer.{Answer}
 use Rattle.session_states.specs.States.{isIdle}
 use Rattle.refusals.specs.Frame.{listed}
 use Rattle.controller.specs.Frame.{refused, mayCharge, frameTo}
-use Rattle.demands.specs.Events.{chargeIn, queryIn, isCharge, isQuery}
+use Rattle.demands.specs.After.{chargeIn, queryIn, isCharge, isQuery}
 use Rattle.refusals.specs.Frame.{messageIn}
 use Rattle.demands.specs.Says.{chargeOf, Says}
 use Rattle.demands.proofs.Tests.{second}

@@ -1,4 +1,4 @@
--- The insurer's first question, "which message, in which state, may end a charge?": exactly the events of `EndsSession`
+-- The insurer's first question, "which message, in which state, may end a charge?": exactly the calls of `EndsSession`
 -- end a session, after any run, and exactly those of `EndsCharge` end a charge. Assumes nothing.
 use Prim.Native.Nat.{ℕ}
 use mathlib.Core.Path.{_≡_, refl, sym, ap, subst, _∙_}
@@ -26,7 +26,8 @@ use Rattle.session_states.specs.States.{isIdle}
 use Rattle.controller.specs.Frame.{refused, frameTo}
 use Rattle.controller.specs.Start.{freshOf}
 use Rattle.demands.specs.Says.{Says}
-use Rattle.demands.specs.Events.{Event, FrameReceived, TickMade, RecordWritten, RecordRead, accepts, readInto, isRead, after, afterAll, noSession}
+use Rattle.demands.specs.Machine.{Call, Receive, Tick, Write, Read}
+use Rattle.demands.specs.After.{accepts, readInto, isRead, after, afterAll, noSession}
 use Rattle.demands.specs.Gone.{estGone}
 use Rattle.session_states.specs.States.{isCharging, isStopping}
 use Rattle.demands.specs.Stops.{whyOf, endsFor, leavesFor}
@@ -86,7 +87,7 @@ module _ (c : Controller) (id : ℕ) (s : List ℕ) where
   its : (m : ChargeMessage) (source : ℕ) → source ≡ c .session .station → Says (c .settings) source m id s → Its m
   its m source e says = subst (λ (z : ℕ). Says (c .settings) z m id s) e says
 
-  ended-by : (m : ChargeMessage) → Its m → messageEnds (c .session .state) (c .session .count) m ≡ true → EndsSession gone-by-count c (FrameReceived id s)
+  ended-by : (m : ChargeMessage) → Its m → messageEnds (c .session .state) (c .session .count) m ≡ true → EndsSession gone-by-count c (Receive id s)
   unfolding messageEnds
   ended-by Cim h e = absurd (false≢true e)
   ended-by (Cvm v) h e = absurd (false≢true e)
@@ -98,7 +99,7 @@ module _ (c : Controller) (id : ℕ) (s : List ℕ) where
   ended-by (Cst false) h e = absurd (false≢true e)
   ended-by Cem h e = ByCem h
 
-  stopped-by : (m : ChargeMessage) → Its m → false ≡ not (messageLeaves m) → EndsCharge c (FrameReceived id s)
+  stopped-by : (m : ChargeMessage) → Its m → false ≡ not (messageLeaves m) → EndsCharge c (Receive id s)
   unfolding messageLeaves
   stopped-by Cim h e = absurd (false≢true e)
   stopped-by (Cvm v) h e = absurd (false≢true e)
@@ -110,7 +111,7 @@ module _ (c : Controller) (id : ℕ) (s : List ℕ) where
   stopped-by Cem h e = AtCem h
 
   ended-came : (a : Answer) → Comes c id s a → isIdle (c .session .state) ≡ false → isIdle (a .controller .session .state) ≡ true
-      → EndsSession gone-by-count c (FrameReceived id s)
+      → EndsSession gone-by-count c (Receive id s)
   unfolding sessionMoved messageOf appliedOf
   ended-came a (Left u k n) h e = absurd (false≢true (sym h ∙ (ap (λ (t : Session). isIdle (t .state)) (sym k) ∙ e)))
   ended-came a (Took m says may k) h e =
@@ -119,7 +120,7 @@ module _ (c : Controller) (id : ℕ) (s : List ℕ) where
       ∙ (ap (λ (t : Answer). isIdle (t .controller .session .state)) (sym k) ∙ e))
 
   stopped-came : (a : Answer) → Comes c id s a → isCharging (c .session .state) ≡ true → isCharging (a .controller .session .state) ≡ false
-      → EndsCharge c (FrameReceived id s)
+      → EndsCharge c (Receive id s)
   unfolding sessionMoved messageOf appliedOf
   stopped-came a (Left u k n) h e = absurd (false≢true (sym e ∙ (ap (λ (t : Session). isCharging (t .state)) k ∙ h)))
   stopped-came a (Took m says may k) h e =
@@ -152,42 +153,42 @@ unfolding readInto isRead freshOf isCharging
 read-charging (read.Read x) c h = refl
 read-charging (read.Refused n) c h = h
 
--- ---- any event, in any state, the EST told by Stopping's count
+-- ---- any call, in any state, the EST told by Stopping's count
 not-true : (b : Bool) → false ≡ not b → b ≡ true
 not-true true h = refl
 not-true false h = absurd (false≢true h)
 
 module _ (c : Controller) where
-  ended-event : (e : Event) → noSession c ≡ false → noSession (after c e) ≡ true → EndsSession (ltb 0 (c .session .count)) c e
+  ended-call : (e : Call) → noSession c ≡ false → noSession (after c e) ≡ true → EndsSession (ltb 0 (c .session .count)) c e
   unfolding noSession after
-  ended-event (FrameReceived id s) h e = ended-came c id s (frameTo c id s) (came c id s) h e
-  ended-event (TickMade r v t old) h e =
+  ended-call (Receive id s) h e = ended-came c id s (frameTo c id s) (came c id s) h e
+  ended-call (Tick r v t old) h e =
       let w = sym (which-tick-ends-a-session c r v t old h) ∙ e in
       ByTick (and-left (accepts r v t old) (endsFor (whyOf (c .settings) r (cellsOf v t) (c .session))) w)
       (and-right (accepts r v t old) (endsFor (whyOf (c .settings) r (cellsOf v t) (c .session))) w)
-  ended-event (RecordWritten old) h e = absurd (false≢true (sym h ∙ e))
-  ended-event (RecordRead s) h e = ByReading (sym (read-idle (readOf s) c h) ∙ e)
+  ended-call (Write old) h e = absurd (false≢true (sym h ∙ e))
+  ended-call (Read s) h e = ByReading (sym (read-idle (readOf s) c h) ∙ e)
 
-  event-ends : (e : Event) → noSession c ≡ false → EndsSession (ltb 0 (c .session .count)) c e → noSession (after c e) ≡ true
+  call-ends : (e : Call) → noSession c ≡ false → EndsSession (ltb 0 (c .session .count)) c e → noSession (after c e) ≡ true
   unfolding noSession after messageEnds
-  event-ends e h (ByCem {id = id} {s = s} says) = its-ends c id s Cem h says refl
-  event-ends e h (ByCst {id = id} {s = s} says stopping gone) = its-ends c id s (Cst true) h says (rw (stopping, gone))
-  event-ends e h (ByTick {r = r} {v = v} {t = t} {old = old} k w) = which-tick-ends-a-session c r v t old h ∙ rw (k, w)
-  event-ends e h (ByReading {s = s} k) = read-idle (readOf s) c h ∙ k
+  call-ends e h (ByCem {id = id} {s = s} says) = its-ends c id s Cem h says refl
+  call-ends e h (ByCst {id = id} {s = s} says stopping gone) = its-ends c id s (Cst true) h says (rw (stopping, gone))
+  call-ends e h (ByTick {r = r} {v = v} {t = t} {old = old} k w) = which-tick-ends-a-session c r v t old h ∙ rw (k, w)
+  call-ends e h (ByReading {s = s} k) = read-idle (readOf s) c h ∙ k
 
   -- THE ANSWER: what ends a charge, in any state whatever
-  pub what-ends-a-charge : (e : Event) → isCharging (c .session .state) ≡ true → isCharging (after c e .session .state) ≡ false → EndsCharge c e
+  pub what-ends-a-charge : (e : Call) → isCharging (c .session .state) ≡ true → isCharging (after c e .session .state) ≡ false → EndsCharge c e
   unfolding after
-  what-ends-a-charge (FrameReceived id s) h e = stopped-came c id s (frameTo c id s) (came c id s) h e
-  what-ends-a-charge (TickMade r v t old) h e =
+  what-ends-a-charge (Receive id s) h e = stopped-came c id s (frameTo c id s) (came c id s) h e
+  what-ends-a-charge (Tick r v t old) h e =
       let w = not-true (accepts r v t old && leavesFor (whyOf (c .settings) r (cellsOf v t) (c .session))) (sym e ∙ which-tick-ends-a-charge c r v t old h) in
       AtTick (and-left (accepts r v t old) (leavesFor (whyOf (c .settings) r (cellsOf v t) (c .session))) w)
       (and-right (accepts r v t old) (leavesFor (whyOf (c .settings) r (cellsOf v t) (c .session))) w)
-  what-ends-a-charge (RecordWritten old) h e = absurd (false≢true (sym e ∙ h))
-  what-ends-a-charge (RecordRead s) h e = AtReading (not-true (isRead (readOf s)) (sym e ∙ read-charging (readOf s) c h))
+  what-ends-a-charge (Write old) h e = absurd (false≢true (sym e ∙ h))
+  what-ends-a-charge (Read s) h e = AtReading (not-true (isRead (readOf s)) (sym e ∙ read-charging (readOf s) c h))
 
   -- and each of these does
-  pub each-ends-a-charge : (e : Event) → isCharging (c .session .state) ≡ true → EndsCharge c e → isCharging (after c e .session .state) ≡ false
+  pub each-ends-a-charge : (e : Call) → isCharging (c .session .state) ≡ true → EndsCharge c e → isCharging (after c e .session .state) ≡ false
   unfolding after messageLeaves
   each-ends-a-charge e h (AtCcs {id = id} {s = s} says) = its-stops c id s (Ccs false) h says refl
   each-ends-a-charge e h (AtCst {id = id} {s = s} {b = b} says) = its-stops c id s (Cst b) h says refl
@@ -196,34 +197,34 @@ module _ (c : Controller) where
   each-ends-a-charge e h (AtReading {s = s} k) = read-charging (readOf s) c h ∙ ap not k
 
 -- ---- over any run from a fresh controller, the EST told by the frames sent
-module _ (x : Settings) (es : List Event) where
+module _ (x : Settings) (es : List Call) where
   abbrev now-in-use : Controller
   now-in-use = afterAll (freshOf x) es
 
   abbrev Agrees : Bool → Type 0
   Agrees g = isStopping (now-in-use .session .state) ≡ true → ltb 0 (now-in-use .session .count) ≡ g
 
-  regone : (g : Bool) (e : Event) → Agrees g → EndsSession (ltb 0 (now-in-use .session .count)) now-in-use e → EndsSession g now-in-use e
+  regone : (g : Bool) (e : Call) → Agrees g → EndsSession (ltb 0 (now-in-use .session .count)) now-in-use e → EndsSession g now-in-use e
   regone g e h (ByCem says) = ByCem says
   regone g e h (ByCst says stopping gone) = ByCst says stopping (sym (h stopping) ∙ gone)
   regone g e h (ByTick k w) = ByTick k w
   regone g e h (ByReading k) = ByReading k
 
-  ungone : (g : Bool) (e : Event) → Agrees g → EndsSession g now-in-use e → EndsSession (ltb 0 (now-in-use .session .count)) now-in-use e
+  ungone : (g : Bool) (e : Call) → Agrees g → EndsSession g now-in-use e → EndsSession (ltb 0 (now-in-use .session .count)) now-in-use e
   ungone g e h (ByCem says) = ByCem says
   ungone g e h (ByCst says stopping gone) = ByCst says stopping (h stopping ∙ gone)
   ungone g e h (ByTick k w) = ByTick k w
   ungone g e h (ByReading k) = ByReading k
 
   -- THE ANSWER: what ends a session
-  pub what-ends-a-session : (e : Event) → noSession now-in-use ≡ false → noSession (after now-in-use e) ≡ true
+  pub what-ends-a-session : (e : Call) → noSession now-in-use ≡ false → noSession (after now-in-use e) ≡ true
       → EndsSession (estGone false (freshOf x) es) now-in-use e
-  what-ends-a-session e h k = regone (estGone false (freshOf x) es) e (est-gone x es) (ended-event now-in-use e h k)
+  what-ends-a-session e h k = regone (estGone false (freshOf x) es) e (est-gone x es) (ended-call now-in-use e h k)
 
   -- and each of these does
-  pub each-ends-a-session : (e : Event) → noSession now-in-use ≡ false → EndsSession (estGone false (freshOf x) es) now-in-use e
+  pub each-ends-a-session : (e : Call) → noSession now-in-use ≡ false → EndsSession (estGone false (freshOf x) es) now-in-use e
       → noSession (after now-in-use e) ≡ true
-  each-ends-a-session e h k = event-ends now-in-use e h (ungone (estGone false (freshOf x) es) e (est-gone x es) k)
+  each-ends-a-session e h k = call-ends now-in-use e h (ungone (estGone false (freshOf x) es) e (est-gone x es) k)
 
   -- THE INCIDENT's other form: an acknowledgement that comes in Stopping before an EST of ours has gone out is answered
   -- 11 and changes nothing

@@ -38,8 +38,8 @@ use Rattle.controller.specs.declared.Answer.{Answer}
 use Rattle.controller.specs.Start.{freshOf}
 use Rattle.controller.specs.Frame.{frameTo}
 use Rattle.controller.specs.Tick.{tickFrames, chargeFrames, broadcastFrames, cellFrames, accepted}
-use Rattle.demands.specs.Machine.{Using, paperNext, seenOf, framesSeen}
-use Rattle.demands.specs.Events.{Event, FrameReceived, TickMade, RecordWritten, RecordRead, callOf, accepts, readInto, after, afterAll}
+use Rattle.demands.specs.Machine.{Call, Receive, Tick, Write, Read, Using, paperNext, seenOf, framesSeen}
+use Rattle.demands.specs.After.{accepts, readInto, after, afterAll}
 use Rattle.session_states.specs.States.{isStopping}
 use Rattle.demands.specs.Gone.{holdsEst, sendsEst, goneAfter, estGone}
 use Rattle.demands.proofs.Tests.{or-left, or-right}
@@ -159,11 +159,11 @@ module _ (c : Controller) (r : Readings) (k : Cells) (rest : List Frame) where
   tick-sends h = turn-sends (turnIn (c .settings) r k (c .session)) h
 
 module _ (gone : Bool) (c : Controller) (h : Agrees gone (c .session)) (r : Readings) (v : List ℕ) (t : List ℤ) (old : List ℕ) where
-  accepted-frames : accepts r v t old ≡ true → framesSeen (seenOf paperNext (Using c) (callOf (TickMade r v t old))) ≡ tickFrames c r v t
+  accepted-frames : accepts r v t old ≡ true → framesSeen (seenOf paperNext (Using c) (Tick r v t old)) ≡ tickFrames c r v t
   unfolding seenOf framesSeen accepts accepted
   accepted-frames e = rw e
 
-  refused-frames : accepts r v t old ≡ false → framesSeen (seenOf paperNext (Using c) (callOf (TickMade r v t old))) ≡ []
+  refused-frames : accepts r v t old ≡ false → framesSeen (seenOf paperNext (Using c) (Tick r v t old)) ≡ []
   unfolding seenOf framesSeen accepts accepted
   refused-frames e = rw e
 
@@ -171,48 +171,48 @@ module _ (gone : Bool) (c : Controller) (h : Agrees gone (c .session)) (r : Read
   others = broadcastFrames c r v t ++ cellFrames c r v t
 
   taken-agrees : accepts r v t old ≡ true
-      → Agrees (isStopping (paperNext c r v t .session .state) && ((isStopping (c .session .state) && gone) || sendsEst c (TickMade r v t old)))
+      → Agrees (isStopping (paperNext c r v t .session .state) && ((isStopping (c .session .state) && gone) || sendsEst c (Tick r v t old)))
       (paperNext c r v t .session)
   unfolding sendsEst paperNext tickFrames chargeFrames
   taken-agrees e p =
       let d = tick-sends c r (cellsOf v t) others p in
       d .count
-      ∙ sym (rw p (or-right (isStopping (c .session .state) && gone) (sendsEst c (TickMade r v t old)) (ap (holdsEst c) (accepted-frames e) ∙ d .est)))
+      ∙ sym (rw p (or-right (isStopping (c .session .state) && gone) (sendsEst c (Tick r v t old)) (ap (holdsEst c) (accepted-frames e) ∙ d .est)))
 
   refused-agrees : accepts r v t old ≡ false
-      → Agrees (isStopping (c .session .state) && ((isStopping (c .session .state) && gone) || sendsEst c (TickMade r v t old))) (c .session)
+      → Agrees (isStopping (c .session .state) && ((isStopping (c .session .state) && gone) || sendsEst c (Tick r v t old))) (c .session)
   unfolding sendsEst holdsEst
   refused-agrees e = rw (refused-frames e) (on-as-it-was gone c h (c .session) refl)
 
   tick-agrees : (f : Bool) → accepts r v t old ≡ f
-      → Agrees (isStopping (cond f (paperNext c r v t) c .session .state) && ((isStopping (c .session .state) && gone) || sendsEst c (TickMade r v t old)))
+      → Agrees (isStopping (cond f (paperNext c r v t) c .session .state) && ((isStopping (c .session .state) && gone) || sendsEst c (Tick r v t old)))
       (cond f (paperNext c r v t) c .session)
   tick-agrees true e = taken-agrees e
   tick-agrees false e = refused-agrees e
 
--- ---- any event, any run
+-- ---- any call, any run
 read-agrees : (gone : Bool) (c : Controller) → Agrees gone (c .session) → (a : SettingsRead)
     → Agrees (isStopping (readInto a c .session .state) && ((isStopping (c .session .state) && gone) || false)) (readInto a c .session)
 unfolding readInto freshOf isStopping
 read-agrees gone c h (read.Read x) e = absurd (false≢true e)
 read-agrees gone c h (read.Refused n) e = on-as-it-was gone c h (c .session) refl e
 
-event-agrees : (gone : Bool) (c : Controller) (e : Event) → Agrees gone (c .session) → Agrees (goneAfter gone c e) (after c e .session)
+call-agrees : (gone : Bool) (c : Controller) (e : Call) → Agrees gone (c .session) → Agrees (goneAfter gone c e) (after c e .session)
 unfolding goneAfter sendsEst seenOf framesSeen holdsEst after
-event-agrees gone c (FrameReceived id s) h = frame-agrees gone c h id s (frameTo c id s) (came c id s)
-event-agrees gone c (TickMade r v t old) h = tick-agrees gone c h r v t old (accepts r v t old) refl
-event-agrees gone c (RecordWritten old) h = on-as-it-was gone c h (c .session) refl
-event-agrees gone c (RecordRead s) h = read-agrees gone c h (readOf s)
+call-agrees gone c (Receive id s) h = frame-agrees gone c h id s (frameTo c id s) (came c id s)
+call-agrees gone c (Tick r v t old) h = tick-agrees gone c h r v t old (accepts r v t old) refl
+call-agrees gone c (Write old) h = on-as-it-was gone c h (c .session) refl
+call-agrees gone c (Read s) h = read-agrees gone c h (readOf s)
 
-run-agrees : (gone : Bool) (c : Controller) (es : List Event) → Agrees gone (c .session) → Agrees (estGone gone c es) (afterAll c es .session)
+run-agrees : (gone : Bool) (c : Controller) (es : List Call) → Agrees gone (c .session) → Agrees (estGone gone c es) (afterAll c es .session)
 unfolding estGone afterAll
 run-agrees gone c [] h = h
-run-agrees gone c (e ∷ es) h = run-agrees (goneAfter gone c e) (after c e) es (event-agrees gone c e h)
+run-agrees gone c (e ∷ es) h = run-agrees (goneAfter gone c e) (after c e) es (call-agrees gone c e h)
 
 fresh-agrees : (x : Settings) → Agrees false (freshOf x .session)
 unfolding freshOf isStopping
 fresh-agrees x h = absurd (false≢true h)
 
-pub est-gone : (x : Settings) (es : List Event) → isStopping (afterAll (freshOf x) es .session .state) ≡ true
+pub est-gone : (x : Settings) (es : List Call) → isStopping (afterAll (freshOf x) es .session .state) ≡ true
     → ltb 0 (afterAll (freshOf x) es .session .count) ≡ estGone false (freshOf x) es
 est-gone x es = run-agrees false (freshOf x) es (fresh-agrees x)

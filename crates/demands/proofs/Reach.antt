@@ -32,8 +32,8 @@ use Rattle.session_states.specs.States.{isIdle}
 use Rattle.refusals.specs.Frame.{listed}
 use Rattle.controller.specs.Frame.{frameTo}
 use Rattle.session_states.specs.Limits.{silenceLimit}
-use Rattle.demands.specs.Machine.{paperNext}
-use Rattle.demands.specs.Events.{Event, FrameReceived, TickMade, RecordWritten, RecordRead, accepts, readInto, isRead, after, afterAll, noSession, endsWithin}
+use Rattle.demands.specs.Machine.{Call, Receive, Tick, Write, Read, paperNext}
+use Rattle.demands.specs.After.{accepts, readInto, isRead, after, afterAll, noSession, endsWithin}
 use Rattle.demands.specs.Apart.{reaching}
 use Rattle.demands.specs.Says.{Says}
 use Rattle.session.specs.Session.{opened}
@@ -49,11 +49,11 @@ use Rattle.demands.proofs.Messages.{mk}
 use Rattle.demands.proofs.ReachStretches.{Still, at-cim, cvm-delays, cvm-verifies, cvm-later, cmp-offers, crm-starts}
 
 -- ---- a list after which the session is `z`, and in which it stays open
-record Good (z : Session) (c : Controller) (es : List Event) : Type 0 where
+record Good (z : Session) (c : Controller) (es : List Call) : Type 0 where
   stays : endsWithin c es ≡ false
   last : afterAll c es .session ≡ z
 
-good-step : (z : Session) (c : Controller) (e : Event) (es : List Event) → noSession c ≡ false → Good z (after c e) es → Good z c (e ∷ es)
+good-step : (z : Session) (c : Controller) (e : Call) (es : List Call) → noSession c ≡ false → Good z (after c e) es → Good z c (e ∷ es)
 unfolding endsWithin afterAll
 good-step z c e es o g = record { stays = or-false (noSession c) (endsWithin (after c e) es) o (g .stays); last = g .last }
 
@@ -62,7 +62,7 @@ unfolding endsWithin afterAll noSession
 good-end c z o h = record { stays = rw h o; last = h }
 
 -- ---- a controller in a stretch: `n` ticks into it, and no more than `b` since its station was heeded
-after-settings : (c : Controller) (id : ℕ) (s : List ℕ) → after c (FrameReceived id s) .settings ≡ c .settings
+after-settings : (c : Controller) (id : ℕ) (s : List ℕ) → after c (Receive id s) .settings ≡ c .settings
 unfolding after
 after-settings c id s = kept-settings c id s
 
@@ -85,7 +85,7 @@ module _ (x : Settings) (a : ℕ) (o : Offer) where
     now-open = open-in c (mk a (w .silence) (w .count) (w .state)) (w .session) (at-open o k n (w .count) (w .state) (w .place))
 
     now-tick : (r : Readings) (v : List ℕ) (t : List ℤ) (old : List ℕ) → accepts r v t old ≡ true → wantedOf r ≡ true → b < silenceLimit
-        → Now k (n + 1) (b + 1) (after c (TickMade r v t old))
+        → Now k (n + 1) (b + 1) (after c (Tick r v t old))
     unfolding after paperNext
     now-tick r v t old f wants l =
         record {
@@ -102,7 +102,7 @@ module _ (x : Settings) (a : ℕ) (o : Offer) where
 
     -- what the station says, the session takes
     now-says : (m : ChargeMessage) (id : ℕ) (s : List ℕ) → Says x a m id s
-        → after c (FrameReceived id s) .session ≡ sessionAfter a (mk a (w .silence) (w .count) (w .state)) (outcomeOf x (w .state) (w .count) m)
+        → after c (Receive id s) .session ≡ sessionAfter a (mk a (w .silence) (w .count) (w .state)) (outcomeOf x (w .state) (w .count) m)
     unfolding after messageOf appliedOf
     now-says m id s h =
         frame-says c m id s
@@ -112,7 +112,7 @@ module _ (x : Settings) (a : ℕ) (o : Offer) where
         ∙ (ap (λ (z : Settings). sessionAfter (c .session .station) (c .session) (outcomeOf z (c .session .state) (c .session .count) m)) (w .settings)
         ∙ ap (λ (z : Session). sessionAfter (z .station) z (outcomeOf x (z .state) (z .count) m)) (w .session))
 
-    now-speaks : (m : ChargeMessage) (id : ℕ) (s : List ℕ) → Says x a m id s → besides k n m ≡ true → Now k n 0 (after c (FrameReceived id s))
+    now-speaks : (m : ChargeMessage) (id : ℕ) (s : List ℕ) → Says x a m id s → besides k n m ≡ true → Now k n 0 (after c (Receive id s))
     now-speaks m id s h f =
         let y : Word x a o k n (sessionAfter a (mk a (w .silence) (w .count) (w .state)) (outcomeOf x (w .state) (w .count) m)) =
         at-word x a o (w .silence) k n (w .count) (w .state) m (w .place) f in
@@ -138,7 +138,7 @@ module _ (x : Settings) (a : ℕ) (o : Offer) where
           place = w .place;
         }
 
-    now-cim : (id : ℕ) (s : List ℕ) → Says x a Cim id s → Now k n b (after c (FrameReceived id s))
+    now-cim : (id : ℕ) (s : List ℕ) → Says x a Cim id s → Now k n b (after c (Receive id s))
     now-cim id s h =
         let y : Still x a o (w .silence) (w .count) (w .state) _ = at-cim x a o k n (w .silence) (w .count) (w .state) (w .place) in
         record {
@@ -160,22 +160,22 @@ module _ (x : Settings) (a : ℕ) (o : Offer) where
     now-read (read.Read y) h = absurd (false≢true (sym h))
     now-read (read.Refused m) h = w
 
-    now-passes : (e : Event) → Passing x a e → Now k n b (after c e)
+    now-passes : (e : Call) → Passing x a e → Now k n b (after c e)
     unfolding Passing after
-    now-passes (FrameReceived id s) h = go (spoken c id s now-open)
+    now-passes (Receive id s) h = go (spoken c id s now-open)
       where
         go : Spoken c id s (frameTo c id s) → Now k n b (frameTo c id s .controller)
         go (Unsaid e) = now-same (frameTo c id s .controller) (kept-settings c id s) e
         go (Said m e) =
             let f : Says x a m id s = says-here m id s e in
             now-cim id s (subst (λ (z : ChargeMessage). Says x a z id s) (h m f) f)
-    now-passes (TickMade r v t old) h = rw h w
-    now-passes (RecordWritten old) h = w
-    now-passes (RecordRead s) h = now-read (readOf s) h
+    now-passes (Tick r v t old) h = rw h w
+    now-passes (Write old) h = w
+    now-passes (Read s) h = now-read (readOf s) h
 
   -- a stretch begins with a message that was taken
-  begins : (k : Stretch) (c : Controller) (id : ℕ) (s : List ℕ) (st : State) → c .settings ≡ x → after c (FrameReceived id s) .session ≡ mk a 0 0 st
-      → At o k 0 st 0 → Now k 0 0 (after c (FrameReceived id s))
+  begins : (k : Stretch) (c : Controller) (id : ℕ) (s : List ℕ) (st : State) → c .settings ≡ x → after c (Receive id s) .session ≡ mk a 0 0 st
+      → At o k 0 st 0 → Now k 0 0 (after c (Receive id s))
   begins k c id s st p h l =
       record {
         silence = 0;
@@ -187,49 +187,49 @@ module _ (x : Settings) (a : ℕ) (o : Offer) where
         place = l;
       }
 
-  abbrev Goal : Controller → List Event → Type 0
+  abbrev Goal : Controller → List Call → Type 0
   Goal = Good (chargingWith x a o)
 
   charging-open : isIdle (chargingWith x a o .state) ≡ false
   unfolding isIdle
   charging-open = refl
 
-  follow : (k : Stretch) (n b : ℕ) (es : List Event) → Follows x a o k n b es → (c : Controller) → Now k n b c → Goal c es
+  follow : (k : Stretch) (n b : ℕ) (es : List Call) → Follows x a o k n b es → (c : Controller) → Now k n b c → Goal c es
   follow k n b es (Passes {e = e} {es = fs} h f) c w =
       good-step _ c e fs (now-open k n b c w) (follow k n b fs f (after c e) (now-passes k n b c w e h))
   follow k n b es (Ticks {r = r} {v = v} {t = t} {old = old} {es = fs} h u l f) c w =
-      good-step _ c (TickMade r v t old) fs (now-open k n b c w)
-      (follow k (n + 1) (b + 1) fs f (after c (TickMade r v t old)) (now-tick k n b c w r v t old h u (omega (arith, l))))
+      good-step _ c (Tick r v t old) fs (now-open k n b c w)
+      (follow k (n + 1) (b + 1) fs f (after c (Tick r v t old)) (now-tick k n b c w r v t old h u (omega (arith, l))))
   follow k n b es (Speaks {id = id} {s = s} {m = m} {es = fs} h u f) c w =
-      good-step _ c (FrameReceived id s) fs (now-open k n b c w) (follow k n 0 fs f (after c (FrameReceived id s)) (now-speaks k n b c w m id s h u))
+      good-step _ c (Receive id s) fs (now-open k n b c w) (follow k n 0 fs f (after c (Receive id s)) (now-speaks k n b c w m id s h u))
   follow k n b es (Delays {id = id} {s = s} {es = fs} h l f) c w =
-      good-step _ c (FrameReceived id s) fs (now-open k n b c w)
-      (follow UntilVerified 0 0 fs f (after c (FrameReceived id s))
+      good-step _ c (Receive id s) fs (now-open k n b c w)
+      (follow UntilVerified 0 0 fs f (after c (Receive id s))
       (begins UntilVerified c id s Unverified (w .settings)
       (now-says k n b c w (Cvm false) id s h ∙ cvm-delays x a o n (w .silence) (w .count) (w .state) (w .place) (omega (arith, l))) AtUnverified))
   follow k n b es (VerifiesLater {id = id} {s = s} {es = fs} h f) c w =
-      good-step _ c (FrameReceived id s) fs (now-open k n b c w)
-      (follow UntilCmp 0 0 fs f (after c (FrameReceived id s))
+      good-step _ c (Receive id s) fs (now-open k n b c w)
+      (follow UntilCmp 0 0 fs f (after c (Receive id s))
       (begins UntilCmp c id s Parameters (w .settings)
       (now-says k n b c w (Cvm true) id s h ∙ cvm-later x a o n (w .silence) (w .count) (w .state) (w .place)) AtParameters))
   follow k n b es (Verifies {id = id} {s = s} {es = fs} h l f) c w =
-      good-step _ c (FrameReceived id s) fs (now-open k n b c w)
-      (follow UntilCmp 0 0 fs f (after c (FrameReceived id s))
+      good-step _ c (Receive id s) fs (now-open k n b c w)
+      (follow UntilCmp 0 0 fs f (after c (Receive id s))
       (begins UntilCmp c id s Parameters (w .settings)
       (now-says k n b c w (Cvm true) id s h ∙ cvm-verifies x a o n (w .silence) (w .count) (w .state) (w .place) (omega (arith, l))) AtParameters))
   follow k n b es (Offers {id = id} {s = s} {es = fs} h y l f) c w =
-      good-step _ c (FrameReceived id s) fs (now-open k n b c w)
-      (follow UntilCrm 0 0 fs f (after c (FrameReceived id s))
+      good-step _ c (Receive id s) fs (now-open k n b c w)
+      (follow UntilCrm 0 0 fs f (after c (Receive id s))
       (begins UntilCrm c id s (Ready true (stationMaximum o)) (w .settings)
       (now-says k n b c w (Cmp o) id s h ∙ cmp-offers x a o n (w .silence) (w .count) (w .state) (w .place) y (omega (arith, l))) AtLast))
   follow k n b es (Starts {id = id} {s = s} h l) c w =
-      good-step _ c (FrameReceived id s) [] (now-open k n b c w)
-      (good-end (after c (FrameReceived id s)) (chargingWith x a o) charging-open
+      good-step _ c (Receive id s) [] (now-open k n b c w)
+      (good-end (after c (Receive id s)) (chargingWith x a o) charging-open
       (now-says k n b c w (Crm true) id s h ∙ crm-starts x a o n (w .silence) (w .count) (w .state) (w .place) (omega (arith, l))))
 
 -- a station whose CIM was taken, and which follows the handshake in what reaches the session, whatever else comes in
 -- between: Charging, with that station and its last offer
-pub reaches-charging : (c : Controller) (st : ℕ) (o : Offer) (es : List Event) → c .session ≡ opened st
+pub reaches-charging : (c : Controller) (st : ℕ) (o : Offer) (es : List Call) → c .session ≡ opened st
     → Follows (c .settings) st o UntilCvm 0 0 (reaching st es) → afterAll c es .session ≡ chargingWith (c .settings) st o
 reaches-charging c st o es h f =
     let w : Now (c .settings) st o UntilCvm 0 0 c =
@@ -241,7 +241,7 @@ reaches-charging c st o es h f =
 
 -- a listed station's CIM, taken in Idle, is such a beginning
 pub cim-opens : (c : Controller) (st id : ℕ) (s : List ℕ) → c .session .state ≡ Idle → listed st (c .settings .stations) ≡ true
-    → Says (c .settings) st Cim id s → after c (FrameReceived id s) .session ≡ opened st
+    → Says (c .settings) st Cim id s → after c (Receive id s) .session ≡ opened st
 unfolding after
 cim-opens c st id s i l h =
     let p : partsOf id .source ≡ st = h .source in
@@ -250,12 +250,12 @@ cim-opens c st id s i l h =
     ∙ ap opened p
 
 -- both together: a listed station's CIM in Idle, and the station follows the handshake
-pub from-cim-to-charging : (c : Controller) (st id : ℕ) (s : List ℕ) (o : Offer) (es : List Event)
+pub from-cim-to-charging : (c : Controller) (st id : ℕ) (s : List ℕ) (o : Offer) (es : List Call)
     → c .session .state ≡ Idle → listed st (c .settings .stations) ≡ true → Says (c .settings) st Cim id s
     → Follows (c .settings) st o UntilCvm 0 0 (reaching st es)
-    → afterAll c (FrameReceived id s ∷ es) .session ≡ chargingWith (c .settings) st o
+    → afterAll c (Receive id s ∷ es) .session ≡ chargingWith (c .settings) st o
 unfolding afterAll
 from-cim-to-charging c st id s o es i l h f =
-    reaches-charging (after c (FrameReceived id s)) st o es (cim-opens c st id s i l h)
+    reaches-charging (after c (Receive id s)) st o es (cim-opens c st id s i l h)
     (subst (λ (x : Settings). Follows x st o UntilCvm 0 0 (reaching st es)) (sym (after-settings c id s)) f)
     ∙ ap (λ (x : Settings). chargingWith x st o) (after-settings c id s)

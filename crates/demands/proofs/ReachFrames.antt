@@ -20,7 +20,7 @@ use Rattle.session.specs.Message.{messageOf}
 use Rattle.controller.specs.declared.Controller.{Controller}
 use Rattle.controller.specs.declared.Answer.{Answer}
 use Rattle.controller.specs.Frame.{frameTo}
-use Rattle.demands.specs.Events.{noSession}
+use Rattle.demands.specs.After.{noSession}
 use Rattle.demands.specs.Says.{Says, chargeOf}
 use Rattle.controller.specs.Frame.{sessionMoved}
 use Rattle.demands.proofs.Comes.{Comes, Left, Took, came, station-is, taken-in}

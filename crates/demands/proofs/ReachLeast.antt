@@ -44,8 +44,8 @@ use Rattle.controller.specs.declared.Controller.{Controller}
 use Rattle.controller.specs.declared.Answer.{Answer}
 use Rattle.controller.specs.Frame.{frameTo}
 use Rattle.session_states.specs.Limits.{silenceLimit, closingLimit, firstEcp}
-use Rattle.demands.specs.Machine.{paperNext}
-use Rattle.demands.specs.Events.{Event, FrameReceived, TickMade, RecordWritten, RecordRead, accepts, readInto, after, afterAll}
+use Rattle.demands.specs.Machine.{Call, Receive, Tick, Write, Read, paperNext}
+use Rattle.demands.specs.After.{accepts, readInto, after, afterAll}
 use Rattle.session_states.specs.States.{isCharging}
 use Rattle.demands.specs.Silent.{isAcceptedTick, ticksIn}
 use Rattle.controller.specs.Frame.{sessionMoved}
@@ -188,7 +188,7 @@ module _ (x : Settings) (r : Readings) (c : Cells) (s : Session) where
   unfolding needed literalTick next turnIn
   tick-needs = turn-needs (s .state)
 
--- ---- any event, any list of events
+-- ---- any call, any list of calls
 paper-needs : (c : Controller) (r : Readings) (v : List ℕ) (t : List ℤ) → needed (paperNext c r v t .session) ≤ needed (c .session) + 1
 unfolding paperNext
 paper-needs c r v t = tick-needs (c .settings) r (cellsOf v t) (c .session)
@@ -198,25 +198,25 @@ unfolding readInto freshOf needed needs
 read-needs (read.Read x) c = omega arith
 read-needs (read.Refused n) c = omega arith
 
-event-needs : (c : Controller) (e : Event) → needed (after c e .session) ≤ needed (c .session) + cond (isAcceptedTick e) 1 0
+call-needs : (c : Controller) (e : Call) → needed (after c e .session) ≤ needed (c .session) + cond (isAcceptedTick e) 1 0
 unfolding after isAcceptedTick
-event-needs c (FrameReceived id s) =
+call-needs c (Receive id s) =
     let h : needed (frameTo c id s .controller .session) ≤ needed (c .session) = frame-needs c id s (frameTo c id s) (came c id s) in
     omega (arith, h)
-event-needs c (TickMade r v t old) = go (accepts r v t old)
+call-needs c (Tick r v t old) = go (accepts r v t old)
   where
     go : (f : Bool) → needed (cond f (paperNext c r v t) c .session) ≤ needed (c .session) + cond f 1 0
     go true = paper-needs c r v t
     go false = omega arith
-event-needs c (RecordWritten old) = omega arith
-event-needs c (RecordRead s) = read-needs (readOf s) c
+call-needs c (Write old) = omega arith
+call-needs c (Read s) = read-needs (readOf s) c
 
-run-needs : (c : Controller) (es : List Event) → needed (afterAll c es .session) ≤ needed (c .session) + ticksIn es
+run-needs : (c : Controller) (es : List Call) → needed (afterAll c es .session) ≤ needed (c .session) + ticksIn es
 unfolding afterAll ticksIn
 run-needs c [] = omega arith
 run-needs c (e ∷ es) =
     let h : needed (afterAll (after c e) es .session) ≤ needed (after c e .session) + ticksIn es = run-needs (after c e) es in
-    omega (arith, h, event-needs c e)
+    omega (arith, h, call-needs c e)
 
 charging-eight : (st : State) (n : ℕ) → isCharging st ≡ true → needs st n ≡ 8
 unfolding isCharging needs
@@ -234,7 +234,7 @@ unfolding needs
 idle-none n = refl
 
 -- from Idle to Charging no fewer than eight accepted ticks, whatever comes in between, and from whom
-pub no-sooner : (c : Controller) (es : List Event)
+pub no-sooner : (c : Controller) (es : List Call)
     → c .session .state ≡ Idle → isCharging (afterAll c es .session .state) ≡ true → 8 ≤ ticksIn es
 unfolding needed
 no-sooner c es i h =

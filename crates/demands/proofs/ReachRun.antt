@@ -17,7 +17,8 @@ use Rattle.session_by_message.specs.Offer.{acceptedOf}
 use Rattle.controller.specs.Start.{freshOf}
 use Rattle.refusals.specs.Frame.{notCan, flagsSet, notForUs, badSource, listed}
 use Rattle.session_states.specs.Limits.{silenceLimit}
-use Rattle.demands.specs.Events.{chargeIn, Event, FrameReceived, TickMade, afterAll, isQuery, queryIn}
+use Rattle.demands.specs.Machine.{Call, Receive, Tick}
+use Rattle.demands.specs.After.{chargeIn, afterAll, isQuery, queryIn}
 use Rattle.demands.specs.Apart.{fromStation, reaches, reaching}
 use Rattle.demands.specs.Silent.{isAcceptedTick, ticksIn}
 use Rattle.refusals.specs.Frame.{longEnough, messageIn}
@@ -102,36 +103,36 @@ all-say =
 pub says-cim : Says ours 0x56 Cim 0x1826_f456 cimData
 says-cim = all-say .cim
 
--- ---- the events
-abbrev cim : Event
-cim = FrameReceived 0x1826_f456 cimData
+-- ---- the calls
+abbrev cim : Call
+cim = Receive 0x1826_f456 cimData
 
-abbrev cvm-aa : Event
-cvm-aa = FrameReceived 0x1801_f456 (0xaa ∷ [])
+abbrev cvm-aa : Call
+cvm-aa = Receive 0x1801_f456 (0xaa ∷ [])
 
-abbrev cvm-00 : Event
-cvm-00 = FrameReceived 0x1801_f456 (0x00 ∷ [])
+abbrev cvm-00 : Call
+cvm-00 = Receive 0x1801_f456 (0x00 ∷ [])
 
-abbrev cmp : Event
-cmp = FrameReceived 0x1808_f456 cmpData
+abbrev cmp : Call
+cmp = Receive 0x1808_f456 cmpData
 
-abbrev low-cmp : Event
-low-cmp = FrameReceived 0x1808_f456 lowData
+abbrev low-cmp : Call
+low-cmp = Receive 0x1808_f456 lowData
 
-abbrev crm-ff : Event
-crm-ff = FrameReceived 0x180a_f456 (0xff ∷ [])
+abbrev crm-ff : Call
+crm-ff = Receive 0x180a_f456 (0xff ∷ [])
 
-abbrev crm-aa : Event
-crm-aa = FrameReceived 0x180a_f456 (0xaa ∷ [])
+abbrev crm-aa : Call
+crm-aa = Receive 0x180a_f456 (0xaa ∷ [])
 
-abbrev tick : Event
-tick = TickMade quietReadings (330 ∷ []) (pos 20 ∷ []) (zeros 117)
+abbrev tick : Call
+tick = Tick quietReadings (330 ∷ []) (pos 20 ∷ []) (zeros 117)
 
 -- after the CIM that opened the session: eight ticks
-pub eight : List Event
+pub eight : List Call
 eight = tick ∷ cvm-aa ∷ tick ∷ tick ∷ tick ∷ tick ∷ tick ∷ tick ∷ cmp ∷ tick ∷ crm-aa ∷ []
 
-on : (k : Stretch) (n b : ℕ) (es : List Event) → b < silenceLimit → Follows ours 0x56 offer k (n + 1) (b + 1) es → Follows ours 0x56 offer k n b (tick ∷ es)
+on : (k : Stretch) (n b : ℕ) (es : List Call) → b < silenceLimit → Follows ours 0x56 offer k (n + 1) (b + 1) es → Follows ours 0x56 offer k n b (tick ∷ es)
 on k n b es l f = Ticks {b = b} (such-a-tick .0) (such-a-tick .1) (omega (arith, l)) f
 
 follows-eight : Follows ours 0x56 offer UntilCvm 0 0 (reaching 0x56 eight)
@@ -148,7 +149,7 @@ follows-eight =
     (Offers (all-say .cmp) yes-rule (omega arith) (on UntilCrm 0 0 _ (omega arith) (Starts (all-say .crm-aa) (omega arith)))))))))))
 
 -- from a fresh controller, by the CIM and what follows
-charges : (es : List Event) → Follows ours 0x56 offer UntilCvm 0 0 (reaching 0x56 es)
+charges : (es : List Call) → Follows ours 0x56 offer UntilCvm 0 0 (reaching 0x56 es)
     → afterAll (freshOf ours) (cim ∷ es) .session ≡ chargingWith ours 0x56 offer
 unfolding freshOf
 charges es f = from-cim-to-charging (freshOf ours) 0x56 0x1826_f456 cimData offer es refl is-listed says-cim f
@@ -160,21 +161,21 @@ eight-are-enough = (rw (such-a-tick .0), charges eight follows-eight)
 
 -- ---- a station that repeats itself, and others on the bus
 -- another listed station's CIM and CEM; the station's own cell query, and its CST to another address, 55
-abbrev cim-57 : Event
-cim-57 = FrameReceived 0x1826_f457 cimData
+abbrev cim-57 : Call
+cim-57 = Receive 0x1826_f457 cimData
 
-abbrev cem-57 : Event
-cem-57 = FrameReceived 0x181f_f457 (0x00 ∷ 0x00 ∷ 0xaa ∷ [])
+abbrev cem-57 : Call
+cem-57 = Receive 0x181f_f457 (0x00 ∷ 0x00 ∷ 0xaa ∷ [])
 
-abbrev query : Event
-query = FrameReceived 0x181b_f456 (zeros 8)
+abbrev query : Call
+query = Receive 0x181b_f456 (zeros 8)
 
-abbrev cst-to-55 : Event
-cst-to-55 = FrameReceived 0x1816_5556 (0x00 ∷ 0x00 ∷ 0xaa ∷ [])
+abbrev cst-to-55 : Call
+cst-to-55 = Receive 0x1816_5556 (0x00 ∷ 0x00 ∷ 0xaa ∷ [])
 
 -- from the opening CIM on: a CVM AA before any EIM; CVM 00, and 00 again before AA; CRM AA and CMP before their time; a
 -- CMP that the yes rule does not accept; then the last CMP, CRM AA before its ERM, CRM FF, and the CRM AA that counts
-pub busy : List Event
+pub busy : List Call
 busy =
     cvm-aa ∷ cim-57 ∷ cim ∷ tick ∷ cem-57
     ∷ cvm-00 ∷ cim ∷ tick ∷ query ∷ cvm-00

@@ -42,8 +42,8 @@ use Rattle.controller.specs.declared.Answer.{Answer}
 use Rattle.controller.specs.Start.{freshOf}
 use Rattle.controller.specs.Frame.{frameTo}
 use Rattle.session_states.specs.Limits.{silenceLimit, closingLimit, driveLimit, restLimit, holdLimit, leastRequest, mostDrives}
-use Rattle.demands.specs.Machine.{paperNext}
-use Rattle.demands.specs.Events.{Event, FrameReceived, TickMade, RecordWritten, RecordRead, accepts, readInto, after, afterAll}
+use Rattle.demands.specs.Machine.{Call, Receive, Tick, Write, Read, paperNext}
+use Rattle.demands.specs.After.{accepts, readInto, after, afterAll}
 use Rattle.demands.specs.Requests.{requestOf, requestIn}
 use Rattle.controller.specs.Frame.{sessionMoved}
 use Rattle.demands.proofs.Outcomes.{Leads, NotTaken, NotInStep, DoesNothing, OpensOne, ToUnverified, ToParameters, ToParametersLater, ToReady, ToReadyAgain, ToCharging, ToStopping, MarksIt, EndsIt, outcome-leads}
@@ -214,7 +214,7 @@ module _ (x : Settings) (r : Readings) (c : Cells) where
       counts-ask (turnedBy s t) (turnedBy s t .state) refl ∙ turned-is s t in
       rw e (turn-asks (s .count) (s .silence) (s .state))
 
--- ---- any event, any run
+-- ---- any call, any run
 abbrev Within : Controller → Type 0
 Within c = requestIn (c .session .state) ≤ c .settings .limits .current .0
 
@@ -238,23 +238,23 @@ unfolding paperNext
 tick-within c r v t true h = omega (arith, h, tick-asks (c .settings) r (cellsOf v t) (c .session))
 tick-within c r v t false h = h
 
-event-within : (c : Controller) (e : Event) → Within c → Within (after c e)
+call-within : (c : Controller) (e : Call) → Within c → Within (after c e)
 unfolding after
-event-within c (FrameReceived id s) h = frame-within c id s (frameTo c id s) (came c id s) h
-event-within c (TickMade r v t old) h = tick-within c r v t (accepts r v t old) h
-event-within c (RecordWritten old) h = h
-event-within c (RecordRead s) h = read-within (readOf s) c h
+call-within c (Receive id s) h = frame-within c id s (frameTo c id s) (came c id s) h
+call-within c (Tick r v t old) h = tick-within c r v t (accepts r v t old) h
+call-within c (Write old) h = h
+call-within c (Read s) h = read-within (readOf s) c h
 
-run-within : (c : Controller) (es : List Event) → Within c → Within (afterAll c es)
+run-within : (c : Controller) (es : List Call) → Within c → Within (afterAll c es)
 unfolding afterAll
 run-within c [] h = h
-run-within c (e ∷ es) h = run-within (after c e) es (event-within c e h)
+run-within c (e ∷ es) h = run-within (after c e) es (call-within c e h)
 
 fresh-within : (x : Settings) → Within (freshOf x)
 unfolding freshOf requestIn
 fresh-within x = omega arith
 
 -- over any run from a fresh controller
-pub never-above-the-maximum : (x : Settings) (es : List Event)
+pub never-above-the-maximum : (x : Settings) (es : List Call)
     → requestIn (afterAll (freshOf x) es .session .state) ≤ afterAll (freshOf x) es .settings .limits .current .0
 never-above-the-maximum x es = run-within (freshOf x) es (fresh-within x)

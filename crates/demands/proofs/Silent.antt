@@ -40,8 +40,8 @@ use Rattle.session_states.specs.States.{isIdle}
 use Rattle.controller.specs.Frame.{frameTo}
 use Rattle.refusals.specs.Tick.{tickNumber}
 use Rattle.session_states.specs.Limits.{silenceLimit, closingLimit}
-use Rattle.demands.specs.Machine.{paperNext}
-use Rattle.demands.specs.Events.{Event, FrameReceived, TickMade, RecordWritten, RecordRead, accepts, readInto, after, noSession, endsWithin}
+use Rattle.demands.specs.Machine.{Call, Receive, Tick, Write, Read, paperNext}
+use Rattle.demands.specs.After.{accepts, readInto, after, noSession, endsWithin}
 use Rattle.demands.specs.Apart.{fromStation}
 use Rattle.demands.specs.Silent.{Unheeded, Silence, quietAt, sendsNothing, isAcceptedTick, ticksIn, EndsBy, longest}
 use Rattle.demands.proofs.Tests.{or-false}
@@ -194,7 +194,7 @@ module _ (x : Settings) (r : Readings) (c : Cells) (s : Session) where
   unfolding left literalTick next turnIn
   falls o = falls-in (s .state) o
 
--- ---- over a list of events
+-- ---- over a list of calls
 quiet-unheeded : (t : Bool) → not t ≡ true → t ≡ false
 quiet-unheeded true h = absurd (false≢true h)
 quiet-unheeded false h = refl
@@ -210,16 +210,16 @@ unfolding readInto freshOf left leftIn
 read-falls (read.Read x) c = omega arith
 read-falls (read.Refused n) c = omega arith
 
--- one event by which nothing is said that is heeded: if an accepted tick, less is left, else no more
-event-falls : (c : Controller) (e : Event) → noSession c ≡ false → Unheeded c e → cond (isAcceptedTick e) 1 0 + left (after c e .session) ≤ left (c .session)
+-- one call by which nothing is said that is heeded: if an accepted tick, less is left, else no more
+call-falls : (c : Controller) (e : Call) → noSession c ≡ false → Unheeded c e → cond (isAcceptedTick e) 1 0 + left (after c e .session) ≤ left (c .session)
 unfolding isAcceptedTick after
-event-falls c (FrameReceived id s) o u = same (frameTo c id s .controller .session) (unheeded-kept c id s o u)
+call-falls c (Receive id s) o u = same (frameTo c id s .controller .session) (unheeded-kept c id s o u)
   where
     same : (z : Session) → z ≡ c .session → 0 + left z ≤ left (c .session)
     same z h = subst (λ (y : Session). 0 + left z ≤ left y) h (omega arith)
-event-falls c (TickMade r v t old) o u = tick-falls c r v t (accepts r v t old) o
-event-falls c (RecordWritten old) o u = omega arith
-event-falls c (RecordRead s) o u = read-falls (readOf s) c
+call-falls c (Tick r v t old) o u = tick-falls c r v t (accepts r v t old) o
+call-falls c (Write old) o u = omega arith
+call-falls c (Read s) o u = read-falls (readOf s) c
 
 some-left : (c : Controller) → noSession c ≡ false → 0 < left (c .session)
 unfolding noSession left
@@ -233,12 +233,12 @@ none-left : (t : Bool) → (t ≡ false → false ≡ true) → t ≡ true
 none-left true f = refl
 none-left false f = f refl
 
-spent : (es : List Event) (c : Controller) → Silence c es → left (c .session) ≤ ticksIn es → endsWithin c es ≡ true
+spent : (es : List Call) (c : Controller) → Silence c es → left (c .session) ≤ ticksIn es → endsWithin c es ≡ true
 unfolding endsWithin ticksIn Silence
 spent [] c q h = none-left (noSession c) (λ o. absurd (omega (arith, some-left c o)))
 spent (e ∷ es) c q h =
     either (noSession c) (endsWithin (after c e) es)
-    (λ o. spent es (after c e) (q o .1) (omega (arith, event-falls c e o (q o .0))))
+    (λ o. spent es (after c e) (q o .1) (omega (arith, call-falls c e o (q o .0))))
 
 -- a session whose station falls silent ends within 801 accepted ticks
 pub within-801 : EndsBy longest
@@ -246,28 +246,28 @@ unfolding left
 within-801 c es q h = spent es c q (omega (arith, most (c .session .state) (c .session .silence) (c .session .count)))
 
 -- ---- a station that sends nothing is silent
-still-event : (c : Controller) (e : Event) → quietAt (c .session .station) e ≡ true → Unheeded c e
+still-call : (c : Controller) (e : Call) → quietAt (c .session .station) e ≡ true → Unheeded c e
 unfolding quietAt Unheeded
-still-event c (FrameReceived id s) q = still-unheeded c id s (quiet-unheeded (fromStation (c .session .station) id) q)
-still-event c (TickMade r v t old) q = tt
-still-event c (RecordWritten old) q = tt
-still-event c (RecordRead s) q = tt
+still-call c (Receive id s) q = still-unheeded c id s (quiet-unheeded (fromStation (c .session .station) id) q)
+still-call c (Tick r v t old) q = tt
+still-call c (Write old) q = tt
+still-call c (Read s) q = tt
 
-still : (st : ℕ) (es : List Event) (c : Controller) → (noSession c ≡ false → c .session .station ≡ st) → sendsNothing st es ≡ true → Silence c es
+still : (st : ℕ) (es : List Call) (c : Controller) → (noSession c ≡ false → c .session .station ≡ st) → sendsNothing st es ≡ true → Silence c es
 unfolding sendsNothing Silence
 still st [] c k q = tt
 still st (e ∷ es) c k q = λ o. (
-  still-event c e (ap (λ (z : ℕ). quietAt z e) (k o) ∙ and-left (quietAt st e) (sendsNothing st es) q),
+  still-call c e (ap (λ (z : ℕ). quietAt z e) (k o) ∙ and-left (quietAt st e) (sendsNothing st es) q),
   still st es (after c e) (λ p. kept-open c e o p ∙ k o) (and-right (quietAt st e) (sendsNothing st es) q),
 )
 
 -- so what `within-801` says holds of a station that is still, whatever it and others send once the session has ended
-pub silent-station : (c : Controller) (es : List Event) → sendsNothing (c .session .station) es ≡ true → Silence c es
+pub silent-station : (c : Controller) (es : List Call) → sendsNothing (c .session .station) es ≡ true → Silence c es
 silent-station c es q = still (c .session .station) es c (λ o. refl) q
 
 -- ---- and 800 are not enough
--- the same event so many times
-unfoldable pub repeated : ℕ → Event → List Event
+-- the same call so many times
+unfoldable pub repeated : ℕ → Call → List Call
 repeated zero e = []
 repeated (suc n) e = e ∷ repeated n e
 
@@ -285,8 +285,8 @@ module _ (x : Settings) (r : Readings) (c : Cells) (a b n : ℕ) where
   offered-tick h w = rw (h, w)
 
 module _ (r : Readings) (v : List ℕ) (t : List ℤ) (old : List ℕ) (taken : accepts r v t old ≡ true) (wants : wantedOf r ≡ true) where
-  abbrev tick : Event
-  tick = TickMade r v t old
+  abbrev tick : Call
+  tick = Tick r v t old
 
   ticks : (c : Controller) (s : Session) → c .session ≡ s → after c tick .session ≡ literalTick (c .settings) r (cellsOf v t) s
   unfolding after paperNext

@@ -23,7 +23,8 @@ use Rattle.controller.specs.declared.Controller.{Controller}
 use Rattle.session_states.specs.States.{isIdle}
 use Rattle.controller.specs.Frame.{frameTo}
 use Rattle.session_states.specs.Limits.{firstEcp}
-use Rattle.demands.specs.Events.{FrameReceived, noSession}
+use Rattle.demands.specs.Machine.{Receive}
+use Rattle.demands.specs.After.{noSession}
 use Rattle.demands.specs.Apart.{fromStation}
 use Rattle.demands.specs.Says.{Says}
 use Rattle.session_states.specs.States.{isStopping}
@@ -166,18 +167,18 @@ said-in-vain c m id s o says h =
     ∙ ap (sessionAfter (c .session .station) (c .session))
     (unfed-refused (c .settings) (c .session .station) (c .session) (c .session .count) (c .session .state) m o h)
 
-unheeded-spoken : (c : Controller) (id : ℕ) (s : List ℕ) → noSession c ≡ false → Unheeded c (FrameReceived id s) → Spoken c id s (frameTo c id s)
+unheeded-spoken : (c : Controller) (id : ℕ) (s : List ℕ) → noSession c ≡ false → Unheeded c (Receive id s) → Spoken c id s (frameTo c id s)
     → frameTo c id s .controller .session ≡ c .session
 unfolding Unheeded
 unheeded-spoken c id s o u (Unsaid k) = k
 unheeded-spoken c id s o u (Said m says) = said-in-vain c m id s o says (u m says)
 
 -- a frame by which its station says nothing that is heeded leaves an open session as it was
-pub unheeded-kept : (c : Controller) (id : ℕ) (s : List ℕ) → noSession c ≡ false → Unheeded c (FrameReceived id s)
+pub unheeded-kept : (c : Controller) (id : ℕ) (s : List ℕ) → noSession c ≡ false → Unheeded c (Receive id s)
     → frameTo c id s .controller .session ≡ c .session
 unheeded-kept c id s o u = unheeded-spoken c id s o u (spoken c id s o)
 
 -- ---- a station that sends nothing
-pub still-unheeded : (c : Controller) (id : ℕ) (s : List ℕ) → fromStation (c .session .station) id ≡ false → Unheeded c (FrameReceived id s)
+pub still-unheeded : (c : Controller) (id : ℕ) (s : List ℕ) → fromStation (c .session .station) id ≡ false → Unheeded c (Receive id s)
 unfolding Unheeded
 still-unheeded c id s h m says = absurd (false≢true (sym h ∙ says-from (c .settings) (c .session .station) m id s says))

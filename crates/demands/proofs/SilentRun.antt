@@ -8,7 +8,8 @@ use mathlib.Core.List.{[], _∷_}
 use lib.IntN.{pos}
 use Rattle.controller.specs.declared.Controller.{Controller}
 use Rattle.controller.specs.Start.{freshOf}
-use Rattle.demands.specs.Events.{Event, FrameReceived, TickMade, after, endsWithin}
+use Rattle.demands.specs.Machine.{Call, Receive, Tick}
+use Rattle.demands.specs.After.{after, endsWithin}
 use Rattle.demands.specs.Silent.{Unheeded, Silence, isAcceptedTick, ticksIn, EndsBy}
 use Rattle.session.specs.Session as session
 use Rattle.demands.proofs.Silent.{repeated, zeros, quietReadings, such-a-tick, not-within-800}
@@ -17,15 +18,15 @@ use Rattle.demands.proofs.ReachRun.{ours, is-listed, cimData, says-cim}
 
 -- ---- a fresh controller, and the CIM that opens its session
 abbrev pub afterCim : Controller
-afterCim = after (freshOf ours) (FrameReceived 0x1826_f456 cimData)
+afterCim = after (freshOf ours) (Receive 0x1826_f456 cimData)
 
 just-opened : afterCim .session ≡ session.opened 0x56
 unfolding freshOf
 just-opened = cim-opens (freshOf ours) 0x56 0x1826_f456 cimData refl is-listed says-cim
 
 -- ---- 800 ticks
-abbrev tick : Event
-tick = TickMade quietReadings (330 ∷ []) (pos 20 ∷ []) (zeros 117)
+abbrev tick : Call
+tick = Tick quietReadings (330 ∷ []) (pos 20 ∷ []) (zeros 117)
 
 ticks-silent : (n : ℕ) (c : Controller) → Silence c (repeated n tick)
 unfolding Silence Unheeded repeated

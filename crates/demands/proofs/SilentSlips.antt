@@ -33,9 +33,9 @@ use Rattle.session.specs.Tick.{turnedBy, turnIn}
 use Rattle.session_paper_counts.specs.Literal.{older, grown, counted, literalIn, literalAdvance, literalTick}
 use Rattle.controller.specs.declared.Controller.{Controller}
 use Rattle.session_states.specs.Limits.{silenceLimit, closingLimit}
-use Rattle.demands.specs.Machine.{paperNext}
+use Rattle.demands.specs.Machine.{Call, Receive, Tick, Write, Read, paperNext}
 use Rattle.session_states.specs.States.{isIdle}
-use Rattle.demands.specs.Events.{Event, FrameReceived, TickMade, RecordWritten, RecordRead, accepts, readInto, after, noSession, endsWithin}
+use Rattle.demands.specs.After.{accepts, readInto, after, noSession, endsWithin}
 use Rattle.demands.specs.Says.{Says}
 use Rattle.demands.specs.Silent.{feeds, Unheeded, Silence, ticksIn, longest}
 use Rattle.demands.specs.SilentSlips.{isCim, isHandshake, SaysOnly}
@@ -113,21 +113,21 @@ module _ (among : State → Bool) (these : ChargeMessage → Bool)
         stays-advance (turnedBy s (turnIn x r c s)) (turnedBy s (turnIn x r c s) .state) refl
         (stays-turned s (turnIn x r c s) (stays-turn (s .count) (s .silence) (s .state) h))
 
-  -- ---- over events
+  -- ---- over calls
   record Deaf (x : Settings) (st : ℕ) (c : Controller) : Type 0 where
     settings : c .settings ≡ x
     station : noSession c ≡ false → c .session .station ≡ st
     state : among (c .session .state) ≡ true
 
   unheard-frame : (x : Settings) (st : ℕ) (c : Controller) (id : ℕ) (s : List ℕ) → Deaf x st c → noSession c ≡ false
-      → ((m : ChargeMessage) → Says x st m id s → these m ≡ true) → Unheeded c (FrameReceived id s)
+      → ((m : ChargeMessage) → Says x st m id s → these m ≡ true) → Unheeded c (Receive id s)
   unfolding Unheeded
   unheard-frame x st c id s d o f m says =
       deaf (c .session .state) m (d .state)
       (f m (subst (λ (z : ℕ). Says x z m id s) (d .station o) (subst (λ (y : Settings). Says y (c .session .station) m id s) (d .settings) says)))
 
-  deaf-frame : (x : Settings) (st : ℕ) (c : Controller) (id : ℕ) (s : List ℕ) → Deaf x st c → noSession c ≡ false → Unheeded c (FrameReceived id s)
-      → Deaf x st (after c (FrameReceived id s))
+  deaf-frame : (x : Settings) (st : ℕ) (c : Controller) (id : ℕ) (s : List ℕ) → Deaf x st c → noSession c ≡ false → Unheeded c (Receive id s)
+      → Deaf x st (after c (Receive id s))
   unfolding after
   deaf-frame x st c id s d o u =
       record {
@@ -148,38 +148,38 @@ module _ (among : State → Bool) (these : ChargeMessage → Bool)
   settings-tick c r v t false = refl
 
   deaf-tick : (x : Settings) (st : ℕ) (c : Controller) (r : Readings) (v : List ℕ) (t : List ℤ) (old : List ℕ) → Deaf x st c → noSession c ≡ false
-      → Deaf x st (after c (TickMade r v t old))
+      → Deaf x st (after c (Tick r v t old))
   unfolding after
   deaf-tick x st c r v t old d o =
       record {
         settings = settings-tick c r v t (accepts r v t old) ∙ d .settings;
-        station = λ p. kept-open c (TickMade r v t old) o p ∙ d .station o;
+        station = λ p. kept-open c (Tick r v t old) o p ∙ d .station o;
         state = state-tick c r v t (accepts r v t old) (d .state);
       }
 
-  over-silence : (c : Controller) (es : List Event) → noSession c ≡ true → Silence c es
+  over-silence : (c : Controller) (es : List Call) → noSession c ≡ true → Silence c es
   unfolding Silence
   over-silence c [] h = tt
   over-silence c (e ∷ es) h = λ o. absurd (false≢true (sym o ∙ h))
 
   -- new settings end the session, and a record that is refused changes nothing
-  either-read : (a : SettingsRead) (c : Controller) (es : List Event) → Silence c es → Silence (readInto a c) es
+  either-read : (a : SettingsRead) (c : Controller) (es : List Call) → Silence c es → Silence (readInto a c) es
   unfolding readInto freshOf noSession isIdle
   either-read (read.Read y) c es h = over-silence (freshOf y) es refl
   either-read (read.Refused n) c es h = h
 
-  deaf-silence : (x : Settings) (st : ℕ) (es : List Event) (c : Controller) → Deaf x st c → SaysOnly these x st es → Silence c es
+  deaf-silence : (x : Settings) (st : ℕ) (es : List Call) (c : Controller) → Deaf x st c → SaysOnly these x st es → Silence c es
   unfolding SaysOnly Silence Unheeded after
   deaf-silence x st [] c d f = tt
-  deaf-silence x st (FrameReceived id s ∷ es) c d f = λ o.
-      let u : Unheeded c (FrameReceived id s) = unheard-frame x st c id s d o (f .0) in
-      (u, deaf-silence x st es (after c (FrameReceived id s)) (deaf-frame x st c id s d o u) (f .1))
-  deaf-silence x st (TickMade r v t old ∷ es) c d f = λ o.
-      (tt, deaf-silence x st es (after c (TickMade r v t old)) (deaf-tick x st c r v t old d o) f)
-  deaf-silence x st (RecordWritten old ∷ es) c d f = λ o. (tt, deaf-silence x st es (after c (RecordWritten old)) d f)
-  deaf-silence x st (RecordRead s ∷ es) c d f = λ o. (tt, either-read (readOf s) c es (deaf-silence x st es c d f))
+  deaf-silence x st (Receive id s ∷ es) c d f = λ o.
+      let u : Unheeded c (Receive id s) = unheard-frame x st c id s d o (f .0) in
+      (u, deaf-silence x st es (after c (Receive id s)) (deaf-frame x st c id s d o u) (f .1))
+  deaf-silence x st (Tick r v t old ∷ es) c d f = λ o.
+      (tt, deaf-silence x st es (after c (Tick r v t old)) (deaf-tick x st c r v t old d o) f)
+  deaf-silence x st (Write old ∷ es) c d f = λ o. (tt, deaf-silence x st es (after c (Write old)) d f)
+  deaf-silence x st (Read s ∷ es) c d f = λ o. (tt, either-read (readOf s) c es (deaf-silence x st es c d f))
 
-  deaf-ends : (c : Controller) (es : List Event) → among (c .session .state) ≡ true → SaysOnly these (c .settings) (c .session .station) es
+  deaf-ends : (c : Controller) (es : List Call) → among (c .session .state) ≡ true → SaysOnly these (c .settings) (c .session .station) es
       → longest ≤ ticksIn es → endsWithin c es ≡ true
   deaf-ends c es h f n =
       within-801 c es (deaf-silence (c .settings) (c .session .station) es c (record { settings = refl; station = λ o. refl; state = h }) f) n
@@ -218,7 +218,7 @@ deaf-to-cim st (Cst b) h e = absurd (false≢true e)
 deaf-to-cim st Cem h e = absurd (false≢true e)
 
 -- a station that says nothing but CIM holds no session open in Parameters
-pub cim-holds-nothing : (c : Controller) (es : List Event) → c .session .state ≡ Parameters
+pub cim-holds-nothing : (c : Controller) (es : List Call) → c .session .state ≡ Parameters
     → SaysOnly isCim (c .settings) (c .session .station) es → longest ≤ ticksIn es → endsWithin c es ≡ true
 unfolding afterOffered
 cim-holds-nothing c es h f n =
@@ -278,7 +278,7 @@ deaf-to-handshake (Stopping a f) m h e = deaf-stopping a f m e
 deaf-to-handshake Error m h e = deaf-error m e
 
 -- a station that says nothing but CIM, CVM, CMP and CRM holds none open in Charging
-pub crm-holds-nothing : (c : Controller) (p : Phase) (es : List Event) → c .session .state ≡ Charging p
+pub crm-holds-nothing : (c : Controller) (p : Phase) (es : List Call) → c .session .state ≡ Charging p
     → SaysOnly isHandshake (c .settings) (c .session .station) es → longest ≤ ticksIn es → endsWithin c es ≡ true
 unfolding fromCharging
 crm-holds-nothing c p es h f n =

@@ -1,4 +1,4 @@
--- "Over any sequence of calls from the start" (demand 2): every controller in use is a fresh one after a run of events;
+-- "Over any sequence of calls from the start" (demand 2): every controller in use is a fresh one after a run of calls;
 -- and what a call is seen to do is what the demands speak of. Assumes nothing.
 use Prim.Native.Nat.{ℕ}
 use mathlib.Core.Path.{_≡_, refl, ap, _∙_}
@@ -15,36 +15,36 @@ use Rattle.controller.specs.Start.{freshOf, startWith, startOf}
 use Rattle.controller.specs.Frame.{frameTo}
 use Rattle.controller.specs.Tick.{chargeFrames, broadcastFrames, cellFrames, tickFrames, accepted}
 use Rattle.demands.specs.Machine.{Call, Read, Receive, Tick, Write, Box, NoController, Using, Gave, paperNext, started, boxAfter, seenOf, boxAt, numberSeen, framesSeen}
-use Rattle.demands.specs.Events.{Event, FrameReceived, TickMade, callOf, accepts, after, afterAll}
+use Rattle.demands.specs.After.{accepts, after, afterAll}
 use Rattle.demands.specs.Apart.{sentAt}
 use Rattle.demands.specs.Unmoved.{broadcastsAt, cellsAt}
 use Rattle.demands.specs.Since.{Since, InUse}
 
-one-later : (c : Controller) (es : List Event) (e : Event) → afterAll c (es ++ (e ∷ [])) ≡ after (afterAll c es) e
+one-later : (c : Controller) (es : List Call) (e : Call) → afterAll c (es ++ (e ∷ [])) ≡ after (afterAll c es) e
 unfolding afterAll
 one-later c [] e = refl
 one-later c (f ∷ es) e = one-later (after c f) es e
 
-since-after : (c : Controller) (e : Event) → Since c → Since (after c e)
+since-after : (c : Controller) (e : Call) → Since c → Since (after c e)
 since-after c e h =
     record {
       settings = h .settings;
-      events = h .events ++ (e ∷ []);
-      run = one-later (freshOf (h .settings)) (h .events) e ∙ ap (λ (z : Controller). after z e) (h .run);
+      calls = h .calls ++ (e ∷ []);
+      run = one-later (freshOf (h .settings)) (h .calls) e ∙ ap (λ (z : Controller). after z e) (h .run);
     }
 
 since-read : (a : SettingsRead) (b : Box) → InUse b → InUse (started (startWith a) b)
 unfolding started startWith InUse afterAll
-since-read (read.Read x) b h = record { settings = x; events = []; run = refl }
+since-read (read.Read x) b h = record { settings = x; calls = []; run = refl }
 since-read (read.Refused n) b h = h
 
 since-call : (b : Box) (k : Call) → InUse b → InUse (boxAfter paperNext b k)
 unfolding boxAfter InUse startOf after accepted accepts
 since-call b (Read s) h = since-read (readOf s) b h
 since-call NoController (Receive id s) h = h
-since-call (Using c) (Receive id s) h = since-after c (FrameReceived id s) h
+since-call (Using c) (Receive id s) h = since-after c (Receive id s) h
 since-call NoController (Tick r v t old) h = h
-since-call (Using c) (Tick r v t old) h = since-after c (TickMade r v t old) h
+since-call (Using c) (Tick r v t old) h = since-after c (Tick r v t old) h
 since-call NoController (Write old) h = h
 since-call (Using c) (Write old) h = h
 
@@ -66,14 +66,14 @@ both-ways true n k m j l o x y z = refl
 both-ways false n k m j l o x y z = refl
 
 pub seen-tick : (c : Controller) (r : Readings) (v : List ℕ) (t : List ℤ) (old : List ℕ)
-    → framesSeen (seenOf paperNext (Using c) (callOf (TickMade r v t old))) ≡ sentAt c r v t old ++ (broadcastsAt c r v t old ++ cellsAt c r v t old)
+    → framesSeen (seenOf paperNext (Using c) (Tick r v t old)) ≡ sentAt c r v t old ++ (broadcastsAt c r v t old ++ cellsAt c r v t old)
 unfolding seenOf sentAt broadcastsAt cellsAt accepts accepted tickFrames
 seen-tick c r v t old =
     both-ways (accepts r v t old) _ _ _ _ _ _ (chargeFrames c r v t) (broadcastFrames c r v t) (cellFrames c r v t)
 
 -- what a frame is seen to be answered, and that it sends nothing
 pub seen-frame : (c : Controller) (id : ℕ) (s : List ℕ)
-    → (numberSeen (seenOf paperNext (Using c) (callOf (FrameReceived id s))) ≡ frameTo c id s .number)
-    × (framesSeen (seenOf paperNext (Using c) (callOf (FrameReceived id s))) ≡ [])
+    → (numberSeen (seenOf paperNext (Using c) (Receive id s)) ≡ frameTo c id s .number)
+    × (framesSeen (seenOf paperNext (Using c) (Receive id s)) ≡ [])
 unfolding seenOf numberSeen framesSeen
 seen-frame c id s = (refl, refl)

@@ -22,8 +22,8 @@ use Rattle.session.specs.Tick.{turnedBy, turnIn}
 use Rattle.session_paper_counts.specs.Literal.{literalIn, literalAdvance, literalTick}
 use Rattle.controller.specs.declared.Controller.{Controller}
 use Rattle.session_states.specs.States.{isIdle}
-use Rattle.demands.specs.Machine.{paperNext}
-use Rattle.demands.specs.Events.{TickMade, accepts, after, noSession}
+use Rattle.demands.specs.Machine.{Tick, paperNext}
+use Rattle.demands.specs.After.{accepts, after, noSession}
 use Rattle.session_states.specs.States.{isCharging}
 use Rattle.demands.specs.Stops.{Why, GoesOn, AtSilenceLimit, NotWantedBefore, NotWantedCharging, CurrentAbove, PackFull, TimeUp, CellFull, AtClosingLimit}
 use Rattle.demands.specs.Stops.{whyOf, ChargesAs, GoesOnAs, LeadsTo, endsFor, leavesFor}
@@ -103,17 +103,17 @@ module _ (c : Controller) (r : Readings) (v : List ℕ) (t : List ℤ) (old : Li
 
   -- THE ANSWER for ticks: an accepted one leads where its reason says
   pub what-a-tick-does : accepts r v t old ≡ true
-      → LeadsTo (c .settings) r (cellsOf v t) (c .session .state) why (after c (TickMade r v t old) .session .state)
+      → LeadsTo (c .settings) r (cellsOf v t) (c .session .state) why (after c (Tick r v t old) .session .state)
   unfolding after paperNext
   what-a-tick-does h = rw h (tick-why (c .settings) r (cellsOf v t) (c .session))
 
   -- a refused one changes nothing
-  pub what-a-refused-tick-does : accepts r v t old ≡ false → after c (TickMade r v t old) ≡ c
+  pub what-a-refused-tick-does : accepts r v t old ≡ false → after c (Tick r v t old) ≡ c
   unfolding after
   what-a-refused-tick-does h = rw h
 
   -- in Idle the session's record is the same, accepted or not
-  pub what-a-tick-does-in-idle : c .session .state ≡ Idle → after c (TickMade r v t old) .session ≡ c .session
+  pub what-a-tick-does-in-idle : c .session .state ≡ Idle → after c (Tick r v t old) .session ≡ c .session
   unfolding after paperNext
   what-a-tick-does-in-idle h = either (accepts r v t old)
     where
@@ -121,18 +121,18 @@ module _ (c : Controller) (r : Readings) (v : List ℕ) (t : List ℤ) (old : Li
       either true = idle-in (c .settings) r (cellsOf v t) (c .session) (c .session .state) h
       either false = refl
 
-  pub which-tick-ends-a-session : noSession c ≡ false → noSession (after c (TickMade r v t old)) ≡ (accepts r v t old && endsFor why)
+  pub which-tick-ends-a-session : noSession c ≡ false → noSession (after c (Tick r v t old)) ≡ (accepts r v t old && endsFor why)
   unfolding noSession
   which-tick-ends-a-session o = either (accepts r v t old) refl
     where
-      either : (b : Bool) → accepts r v t old ≡ b → isIdle (after c (TickMade r v t old) .session .state) ≡ (b && endsFor why)
+      either : (b : Bool) → accepts r v t old ≡ b → isIdle (after c (Tick r v t old) .session .state) ≡ (b && endsFor why)
       either true h = leads-idle (c .settings) r (cellsOf v t) why (c .session .state) _ o (what-a-tick-does h)
       either false h = ap (λ (z : Controller). isIdle (z .session .state)) (what-a-refused-tick-does h) ∙ o
 
   pub which-tick-ends-a-charge : isCharging (c .session .state) ≡ true
-      → isCharging (after c (TickMade r v t old) .session .state) ≡ not (accepts r v t old && leavesFor why)
+      → isCharging (after c (Tick r v t old) .session .state) ≡ not (accepts r v t old && leavesFor why)
   which-tick-ends-a-charge o = either (accepts r v t old) refl
     where
-      either : (b : Bool) → accepts r v t old ≡ b → isCharging (after c (TickMade r v t old) .session .state) ≡ not (b && leavesFor why)
+      either : (b : Bool) → accepts r v t old ≡ b → isCharging (after c (Tick r v t old) .session .state) ≡ not (b && leavesFor why)
       either true h = leads-charging (c .settings) r (cellsOf v t) why (c .session .state) _ o (what-a-tick-does h)
       either false h = ap (λ (z : Controller). isCharging (z .session .state)) (what-a-refused-tick-does h) ∙ o

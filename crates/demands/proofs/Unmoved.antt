@@ -16,8 +16,8 @@ use Rattle.controller.specs.declared.Answer.{Answer}
 use Rattle.controller.specs.Frame.{kindOf, frameTo}
 use Rattle.controller.specs.Tick.{broadcastFrames, cellFrames}
 use Rattle.controller.specs.With.{withSession}
-use Rattle.demands.specs.Machine.{paperNext}
-use Rattle.demands.specs.Events.{Event, FrameReceived, TickMade, RecordWritten, RecordRead, accepts, readInto, after, isCharge}
+use Rattle.demands.specs.Machine.{Call, Receive, Tick, Write, Read, paperNext}
+use Rattle.demands.specs.After.{accepts, readInto, after, isCharge}
 use Rattle.demands.specs.Unmoved.{isChargeMessage, others, Output, broadcastsAt, cellsAt, outputAt, outputs, Beside}
 use Rattle.controller.specs.Frame.{sessionMoved, queriesMoved}
 use Rattle.demands.proofs.View.{View, Refused, Asks, Charges, view}
@@ -65,12 +65,12 @@ module _ (c d : Controller) (a : Beside c d) where
   beside-read (read.Read x) = refl
   beside-read (read.Refused n) = a
 
-  beside-event : (e : Event) → isChargeMessage e ≡ false → Beside (after c e) (after d e)
+  beside-call : (e : Call) → isChargeMessage e ≡ false → Beside (after c e) (after d e)
   unfolding after isChargeMessage
-  beside-event (FrameReceived id s) h = same-frame id s h .beside
-  beside-event (TickMade r v t old) h = beside-choice (accepts r v t old) _ _ (beside-next r v t)
-  beside-event (RecordWritten old) h = a
-  beside-event (RecordRead s) h = beside-read (readOf s)
+  beside-call (Receive id s) h = same-frame id s h .beside
+  beside-call (Tick r v t old) h = beside-choice (accepts r v t old) _ _ (beside-next r v t)
+  beside-call (Write old) h = a
+  beside-call (Read s) h = beside-read (readOf s)
 
   same-broadcasts : (r : Readings) (v : List ℕ) (t : List ℤ) → broadcastFrames c r v t ≡ broadcastFrames d r v t
   unfolding broadcastFrames
@@ -80,49 +80,49 @@ module _ (c d : Controller) (a : Beside c d) where
   unfolding cellFrames
   same-cells r v t = ap (λ (z : Controller). cellFrames z r v t) a
 
-  same-output : (e : Event) → isChargeMessage e ≡ false → outputAt c e ≡ outputAt d e
+  same-output : (e : Call) → isChargeMessage e ≡ false → outputAt c e ≡ outputAt d e
   unfolding outputAt broadcastsAt cellsAt isChargeMessage
-  same-output (FrameReceived id s) h = rw (h, same-frame id s h .number)
-  same-output (TickMade r v t old) h = rw (same-broadcasts r v t, same-cells r v t)
-  same-output (RecordWritten old) h = refl
-  same-output (RecordRead s) h = refl
+  same-output (Receive id s) h = rw (h, same-frame id s h .number)
+  same-output (Tick r v t old) h = rw (same-broadcasts r v t, same-cells r v t)
+  same-output (Write old) h = refl
+  same-output (Read s) h = refl
 
 -- nothing comes out beside the session by a charge message
-no-output : (c : Controller) (e : Event) → isChargeMessage e ≡ true → outputAt c e ≡ []
+no-output : (c : Controller) (e : Call) → isChargeMessage e ≡ true → outputAt c e ≡ []
 unfolding outputAt isChargeMessage
-no-output c (FrameReceived id s) h = rw h
-no-output c (TickMade r v t old) h = absurd (false≢true h)
-no-output c (RecordWritten old) h = absurd (false≢true h)
-no-output c (RecordRead s) h = absurd (false≢true h)
+no-output c (Receive id s) h = rw h
+no-output c (Tick r v t old) h = absurd (false≢true h)
+no-output c (Write old) h = absurd (false≢true h)
+no-output c (Read s) h = absurd (false≢true h)
 
-unmoved-by : (c : Controller) (e : Event) → isChargeMessage e ≡ true → Beside (after c e) c
+unmoved-by : (c : Controller) (e : Call) → isChargeMessage e ≡ true → Beside (after c e) c
 unfolding after isChargeMessage
-unmoved-by c (FrameReceived id s) h = charge-leaves c id s (frameTo c id s) (came c id s) h
-unmoved-by c (TickMade r v t old) h = absurd (false≢true h)
-unmoved-by c (RecordWritten old) h = absurd (false≢true h)
-unmoved-by c (RecordRead s) h = absurd (false≢true h)
+unmoved-by c (Receive id s) h = charge-leaves c id s (frameTo c id s) (came c id s) h
+unmoved-by c (Tick r v t old) h = absurd (false≢true h)
+unmoved-by c (Write old) h = absurd (false≢true h)
+unmoved-by c (Read s) h = absurd (false≢true h)
 
 then : (c d e : Controller) → Beside c d → Beside d e → Beside c e
 then c d e a b = ap (λ (z : Controller). withSession z (e .session)) a ∙ b
 
-abbrev Deaf : List Event → Type 0
+abbrev Deaf : List Call → Type 0
 Deaf es = (c d : Controller) → Beside c d → outputs c es ≡ outputs d (others es)
 
-one-more : (e : Event) (es : List Event) → Deaf es → (c d : Controller) → Beside c d → (t : Bool) → isChargeMessage e ≡ t
+one-more : (e : Call) (es : List Call) → Deaf es → (c d : Controller) → Beside c d → (t : Bool) → isChargeMessage e ≡ t
     → outputAt c e ++ outputs (after c e) es ≡ outputs d (cond t (others es) (e ∷ others es))
 unfolding outputs
 one-more e es ih c d a true h =
     ap (λ (l : List Output). l ++ outputs (after c e) es) (no-output c e h) ∙ ih (after c e) d (then (after c e) c d (unmoved-by c e h) a)
 one-more e es ih c d a false h =
     ap (λ (l : List Output). l ++ outputs (after c e) es) (same-output c d a e h)
-    ∙ ap (λ (l : List Output). outputAt d e ++ l) (ih (after c e) (after d e) (beside-event c d a e h))
+    ∙ ap (λ (l : List Output). outputAt d e ++ l) (ih (after c e) (after d e) (beside-call c d a e h))
 
-deaf : (es : List Event) → Deaf es
+deaf : (es : List Call) → Deaf es
 unfolding outputs others
 deaf [] c d a = refl
 deaf (e ∷ es) c d a = one-more e es (deaf es) c d a (isChargeMessage e) refl
 
--- two controllers that agree beside their sessions, and two lists of events that differ only in charge messages: the
+-- two controllers that agree beside their sessions, and two lists of calls that differ only in charge messages: the
 -- same broadcasts, the same cell answers and the same numbers to queries
-pub unmoved : (c d : Controller) (ks ls : List Event) → Beside c d → others ks ≡ others ls → outputs c ks ≡ outputs d ls
+pub unmoved : (c d : Controller) (ks ls : List Call) → Beside c d → others ks ≡ others ls → outputs c ks ≡ outputs d ls
 unmoved c d ks ls a h = deaf ks c d a ∙ (ap (outputs d) h ∙ sym (deaf ls d d refl))

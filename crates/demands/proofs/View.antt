@@ -30,7 +30,7 @@ use Rattle.controller.specs.declared.Controller.{Controller}
 use Rattle.controller.specs.declared.Answer.{Answer}
 use Rattle.controller.specs.Frame.{refused, mayCharge, kindOf, frameTo}
 use Rattle.refusals.specs.Frame.{longEnough, messageIn}
-use Rattle.demands.specs.Events.{chargeIn, queryIn, isCharge, isQuery}
+use Rattle.demands.specs.After.{chargeIn, queryIn, isCharge, isQuery}
 use Rattle.controller.specs.Frame.{sessionMoved, contentTaken, chargeTo, queriesMoved, queryTo, messageTo}
 
 -- ---- the answer to a frame: what the checks 3 to 8 make of it, then the message's own part

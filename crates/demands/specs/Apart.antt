@@ -14,21 +14,22 @@ use Rattle.session.specs.declared.Session.{Session}
 use Rattle.controller.specs.declared.Controller.{Controller}
 use Rattle.controller.specs.Frame.{frameTo}
 use Rattle.controller.specs.Tick.{chargeFrames}
-use Rattle.demands.specs.Events.{Event, FrameReceived, TickMade, RecordWritten, RecordRead, accepts, isRead, after, noSession, isQuery}
+use Rattle.demands.specs.Machine.{Call, Receive, Tick, Write, Read}
+use Rattle.demands.specs.After.{accepts, isRead, after, noSession, isQuery}
 
 -- a frame that can reach a session with the station `st`: its source part is the station, and it is no cell query
 unfoldable pub fromStation : ℕ → ℕ → Bool
 fromStation st id = eqb (partsOf id .source) st && not (isQuery id)
 
 -- what can reach a session with the station `st`: ticks, the station's frames, and new settings, which end it
-unfoldable pub reaches : ℕ → Event → Bool
-reaches st (FrameReceived id s) = fromStation st id
-reaches st (TickMade r v t old) = true
-reaches st (RecordWritten old) = false
-reaches st (RecordRead s) = isRead (readOf s)
+unfoldable pub reaches : ℕ → Call → Bool
+reaches st (Receive id s) = fromStation st id
+reaches st (Tick r v t old) = true
+reaches st (Write old) = false
+reaches st (Read s) = isRead (readOf s)
 
--- the events without all else
-unfoldable pub reaching : ℕ → List Event → List Event
+-- the calls without all else
+unfoldable pub reaching : ℕ → List Call → List Call
 reaching st [] = []
 reaching st (e ∷ es) = cond (reaches st e) (e ∷ reaching st es) (reaching st es)
 
@@ -42,16 +43,16 @@ pub data Moment : Type 0 where
 unfoldable pub sentAt : Controller → Readings → List ℕ → List ℤ → List ℕ → List Frame
 sentAt c r v t old = cond (accepts r v t old) (chargeFrames c r v t) []
 
-unfoldable pub moments : Controller → Event → List Moment
-moments c (FrameReceived id s) =
+unfoldable pub moments : Controller → Call → List Moment
+moments c (Receive id s) =
     cond (fromStation (c .session .station) id)
     (AfterFrame (frameTo c id s .number) (frameTo c id s .controller .session) ∷ []) []
-moments c (TickMade r v t old) = AfterTick (sentAt c r v t old) (after c (TickMade r v t old) .session) ∷ []
-moments c (RecordWritten old) = []
-moments c (RecordRead s) = cond (isRead (readOf s)) (AfterRecord ∷ []) []
+moments c (Tick r v t old) = AfterTick (sentAt c r v t old) (after c (Tick r v t old) .session) ∷ []
+moments c (Write old) = []
+moments c (Read s) = cond (isRead (readOf s)) (AfterRecord ∷ []) []
 
 -- all that is seen of a session, up to and with what ends it
-unfoldable pub life : Controller → List Event → List Moment
+unfoldable pub life : Controller → List Call → List Moment
 life c [] = []
 life c (e ∷ es) = moments c e ++ cond (noSession (after c e)) [] (life (after c e) es)
 

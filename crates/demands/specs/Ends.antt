@@ -15,7 +15,8 @@ use Rattle.charge_messages.specs.declared.ChargeMessage.{ChargeMessage}
 use Rattle.charge_messages.specs.declared.ChargeMessage.the-variants.{Cim, Cvm, Cmp, Crm, Ccs, Cst, Cem}
 use Rattle.session_states.specs.declared.states.State.{State}
 use Rattle.controller.specs.declared.Controller.{Controller}
-use Rattle.demands.specs.Events.{Event, FrameReceived, TickMade, RecordRead, accepts, isRead}
+use Rattle.demands.specs.Machine.{Call, Receive, Tick, Read}
+use Rattle.demands.specs.After.{accepts, isRead}
 use Rattle.session_states.specs.States.{isStopping}
 use Rattle.demands.specs.Stops.{whyOf, endsFor, leavesFor}
 use Rattle.demands.specs.Says.{Says}
@@ -45,23 +46,23 @@ messageLeaves Cem = true
 -- is a CEM; or it is a CST AA, the session is in Stopping, and an EST of ours has gone out since Stopping began. A
 -- tick: it is accepted, and charge is not wanted before Charging, or Stopping or Error are at count 600. New settings,
 -- which make a fresh controller
-pub data EndsSession (gone : Bool) (c : Controller) : Event → Type 0 where
+pub data EndsSession (gone : Bool) (c : Controller) : Call → Type 0 where
   ByCem : {id : ℕ} {s : List ℕ} → Says (c .settings) (c .session .station) Cem id s
-      → EndsSession gone c (FrameReceived id s)
+      → EndsSession gone c (Receive id s)
   ByCst : {id : ℕ} {s : List ℕ} → Says (c .settings) (c .session .station) (Cst true) id s
-      → isStopping (c .session .state) ≡ true → gone ≡ true → EndsSession gone c (FrameReceived id s)
+      → isStopping (c .session .state) ≡ true → gone ≡ true → EndsSession gone c (Receive id s)
   ByTick : {r : Readings} {v : List ℕ} {t : List ℤ} {old : List ℕ} → accepts r v t old ≡ true
-      → endsFor (whyOf (c .settings) r (cellsOf v t) (c .session)) ≡ true → EndsSession gone c (TickMade r v t old)
-  ByReading : {s : List ℕ} → isRead (readOf s) ≡ true → EndsSession gone c (RecordRead s)
+      → endsFor (whyOf (c .settings) r (cellsOf v t) (c .session)) ≡ true → EndsSession gone c (Tick r v t old)
+  ByReading : {s : List ℕ} → isRead (readOf s) ≡ true → EndsSession gone c (Read s)
 
 -- and what ends a charge. A frame: it comes from the session's station, no check refuses it, and it is CCS 00, CST of
 -- either value, or CEM. A tick: it is accepted, and one of the rules that leave Charging holds. New settings
-pub data EndsCharge (c : Controller) : Event → Type 0 where
+pub data EndsCharge (c : Controller) : Call → Type 0 where
   AtCcs : {id : ℕ} {s : List ℕ} → Says (c .settings) (c .session .station) (Ccs false) id s
-      → EndsCharge c (FrameReceived id s)
+      → EndsCharge c (Receive id s)
   AtCst : {id : ℕ} {s : List ℕ} {b : Bool} → Says (c .settings) (c .session .station) (Cst b) id s
-      → EndsCharge c (FrameReceived id s)
-  AtCem : {id : ℕ} {s : List ℕ} → Says (c .settings) (c .session .station) Cem id s → EndsCharge c (FrameReceived id s)
+      → EndsCharge c (Receive id s)
+  AtCem : {id : ℕ} {s : List ℕ} → Says (c .settings) (c .session .station) Cem id s → EndsCharge c (Receive id s)
   AtTick : {r : Readings} {v : List ℕ} {t : List ℤ} {old : List ℕ} → accepts r v t old ≡ true
-      → leavesFor (whyOf (c .settings) r (cellsOf v t) (c .session)) ≡ true → EndsCharge c (TickMade r v t old)
-  AtReading : {s : List ℕ} → isRead (readOf s) ≡ true → EndsCharge c (RecordRead s)
+      → leavesFor (whyOf (c .settings) r (cellsOf v t) (c .session)) ≡ true → EndsCharge c (Tick r v t old)
+  AtReading : {s : List ℕ} → isRead (readOf s) ≡ true → EndsCharge c (Read s)

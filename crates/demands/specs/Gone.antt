@@ -7,8 +7,8 @@ use Rattle.messages.specs.Table.{EST}
 use Rattle.messages.specs.Identifier.{identifierOf}
 use Rattle.frames.specs.declared.Frame.{Frame}
 use Rattle.controller.specs.declared.Controller.{Controller}
-use Rattle.demands.specs.Machine.{Using, paperNext, seenOf, framesSeen}
-use Rattle.demands.specs.Events.{Event, callOf, after}
+use Rattle.demands.specs.Machine.{Call, Using, paperNext, seenOf, framesSeen}
+use Rattle.demands.specs.After.{after}
 use Rattle.session_states.specs.States.{isStopping}
 
 -- among the frames is our EST to the session's station
@@ -16,17 +16,17 @@ unfoldable pub holdsEst : Controller → List Frame → Bool
 holdsEst c [] = false
 holdsEst c (f ∷ fs) = eqb (f .id) (identifierOf EST (c .session .station) (c .settings .own)) || holdsEst c fs
 
--- the event sends one
-unfoldable pub sendsEst : Controller → Event → Bool
-sendsEst c e = holdsEst c (framesSeen (seenOf paperNext (Using c) (callOf e)))
+-- the call sends one
+unfoldable pub sendsEst : Controller → Call → Bool
+sendsEst c e = holdsEst c (framesSeen (seenOf paperNext (Using c) e))
 
--- after one event more: the session is in Stopping, and one had gone out while it was in Stopping before, or goes out
+-- after one call more: the session is in Stopping, and one had gone out while it was in Stopping before, or goes out
 -- now
-unfoldable pub goneAfter : Bool → Controller → Event → Bool
+unfoldable pub goneAfter : Bool → Controller → Call → Bool
 goneAfter gone c e =
     isStopping (after c e .session .state) && ((isStopping (c .session .state) && gone) || sendsEst c e)
 
 -- after a run
-unfoldable pub estGone : Bool → Controller → List Event → Bool
+unfoldable pub estGone : Bool → Controller → List Call → Bool
 estGone gone c [] = gone
 estGone gone c (e ∷ es) = estGone (goneAfter gone c e) (after c e) es

@@ -3,7 +3,7 @@ pub mod InStep
 pub mod Calls
 pub mod WorkedRows
 pub mod PaperNumbers
-pub mod Events
+pub mod After
 pub mod Says
 pub mod Ends
 pub mod Over

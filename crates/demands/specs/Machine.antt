@@ -1,7 +1,7 @@
 -- The paper's machine over any list of calls (01, "What the box does", "Numbers returned"). A controller's rules for a
 -- frame, for what a tick sends and for settings are the definitions that the entry points promise; how counts go on is
 -- the paper's: the number of accepted ticks, a state's count, silence and a phase's time are one more after each
--- accepted tick, for ever. For `demand-2` and `demand-2-of-calls`; all that is said of events is said of this machine
+-- accepted tick, for ever. For `demand-2` and `demand-2-of-calls`; all that is said of calls is said of this machine
 -- too (`after-is`, `seen-tick`, `seen-frame`, `in-use`).
 use Prim.Native.Nat.{ℕ, _+_, _*_}
 use mathlib.Core.Bool.{cond}

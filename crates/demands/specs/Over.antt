@@ -10,7 +10,7 @@ use Rattle.session.specs.Session.{opened}
 use Rattle.controller.specs.declared.Controller.{Controller}
 use Rattle.refusals.specs.Frame.{listed}
 use Rattle.controller.specs.Frame.{frameTo}
-use Rattle.demands.specs.Events.{isCharge}
+use Rattle.demands.specs.After.{isCharge}
 use Rattle.demands.specs.Says.{Says}
 
 -- a well-formed CIM from a listed station: every check passes, and the session opens with its source

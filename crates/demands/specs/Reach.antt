@@ -22,7 +22,8 @@ use Rattle.session_by_message.specs.Message.{goneOut}
 use Rattle.session.specs.declared.Session.{Session}
 use Rattle.session.specs.Session.{begun, opened}
 use Rattle.session_states.specs.Limits.{silenceLimit, firstEcp}
-use Rattle.demands.specs.Events.{Event, FrameReceived, TickMade, RecordWritten, RecordRead, accepts, isRead}
+use Rattle.demands.specs.Machine.{Call, Receive, Tick, Write, Read}
+use Rattle.demands.specs.After.{accepts, isRead}
 use Rattle.demands.specs.Says.{Says}
 
 -- the session where Charging begins, with the offer of the station's last CMP
@@ -78,37 +79,37 @@ besides UntilCrm n Cem = false
 -- what may come at any time, and leaves silence alone: a frame by which the station says no charge message (another's,
 -- a cell query, or one that 3 to 10 refuse) or only a CIM; a refused tick; settings written; a settings record that is
 -- refused
-unfoldable pub Passing : Settings → ℕ → Event → Type 0
-Passing x st (FrameReceived id s) = (m : ChargeMessage) → Says x st m id s → m ≡ Cim
-Passing x st (TickMade r v t old) = accepts r v t old ≡ false
-Passing x st (RecordWritten old) = Unit {0}
-Passing x st (RecordRead s) = isRead (readOf s) ≡ false
+unfoldable pub Passing : Settings → ℕ → Call → Type 0
+Passing x st (Receive id s) = (m : ChargeMessage) → Says x st m id s → m ≡ Cim
+Passing x st (Tick r v t old) = accepts r v t old ≡ false
+Passing x st (Write old) = Unit {0}
+Passing x st (Read s) = isRead (readOf s) ≡ false
 
 -- the station `st` of a controller with the settings `x`; `o` is the offer of its last CMP
 module _ (x : Settings) (st : ℕ) (o : Offer) where
-  -- over a list of events, from a place `n` accepted ticks into a stretch and `b` after the station was last heeded,
+  -- over a list of calls, from a place `n` accepted ticks into a stretch and `b` after the station was last heeded,
   -- the station follows the handshake up to its CRM AA
-  pub data Follows : Stretch → ℕ → ℕ → List Event → Type 0 where
-    Passes : {k : Stretch} {n b : ℕ} {e : Event} {es : List Event}
+  pub data Follows : Stretch → ℕ → ℕ → List Call → Type 0 where
+    Passes : {k : Stretch} {n b : ℕ} {e : Call} {es : List Call}
         → Passing x st e → Follows k n b es → Follows k n b (e ∷ es)
     -- an accepted tick: charge is wanted, and fewer than 200 have gone by since the station was last heeded
-    Ticks : {k : Stretch} {n b : ℕ} {r : Readings} {v : List ℕ} {t : List ℤ} {old : List ℕ} {es : List Event}
+    Ticks : {k : Stretch} {n b : ℕ} {r : Readings} {v : List ℕ} {t : List ℤ} {old : List ℕ} {es : List Call}
         → accepts r v t old ≡ true → wantedOf r ≡ true → b < silenceLimit
-        → Follows k (n + 1) (b + 1) es → Follows k n b (TickMade r v t old ∷ es)
-    Speaks : {k : Stretch} {n b id : ℕ} {s : List ℕ} {m : ChargeMessage} {es : List Event}
-        → Says x st m id s → besides k n m ≡ true → Follows k n 0 es → Follows k n b (FrameReceived id s ∷ es)
+        → Follows k (n + 1) (b + 1) es → Follows k n b (Tick r v t old ∷ es)
+    Speaks : {k : Stretch} {n b id : ℕ} {s : List ℕ} {m : ChargeMessage} {es : List Call}
+        → Says x st m id s → besides k n m ≡ true → Follows k n 0 es → Follows k n b (Receive id s ∷ es)
     -- after at least 1 tick CVM: 00, and AA at any time later, or AA at once
-    Delays : {n b id : ℕ} {s : List ℕ} {es : List Event}
+    Delays : {n b id : ℕ} {s : List ℕ} {es : List Call}
         → Says x st (Cvm false) id s → 1 ≤ n
-        → Follows UntilVerified 0 0 es → Follows UntilCvm n b (FrameReceived id s ∷ es)
-    VerifiesLater : {n b id : ℕ} {s : List ℕ} {es : List Event}
-        → Says x st (Cvm true) id s → Follows UntilCmp 0 0 es → Follows UntilVerified n b (FrameReceived id s ∷ es)
-    Verifies : {n b id : ℕ} {s : List ℕ} {es : List Event}
-        → Says x st (Cvm true) id s → 1 ≤ n → Follows UntilCmp 0 0 es → Follows UntilCvm n b (FrameReceived id s ∷ es)
+        → Follows UntilVerified 0 0 es → Follows UntilCvm n b (Receive id s ∷ es)
+    VerifiesLater : {n b id : ℕ} {s : List ℕ} {es : List Call}
+        → Says x st (Cvm true) id s → Follows UntilCmp 0 0 es → Follows UntilVerified n b (Receive id s ∷ es)
+    Verifies : {n b id : ℕ} {s : List ℕ} {es : List Call}
+        → Says x st (Cvm true) id s → 1 ≤ n → Follows UntilCmp 0 0 es → Follows UntilCvm n b (Receive id s ∷ es)
     -- after at least 6 ticks a CMP that the yes rule accepts
-    Offers : {n b id : ℕ} {s : List ℕ} {es : List Event}
+    Offers : {n b id : ℕ} {s : List ℕ} {es : List Call}
         → Says x st (Cmp o) id s → acceptedOf x o ≡ true → firstEcp + 1 ≤ n
-        → Follows UntilCrm 0 0 es → Follows UntilCmp n b (FrameReceived id s ∷ es)
+        → Follows UntilCrm 0 0 es → Follows UntilCmp n b (Receive id s ∷ es)
     -- after at least 1 tick CRM AA
     Starts : {n b id : ℕ} {s : List ℕ}
-        → Says x st (Crm true) id s → 1 ≤ n → Follows UntilCrm n b (FrameReceived id s ∷ [])
+        → Says x st (Crm true) id s → 1 ≤ n → Follows UntilCrm n b (Receive id s ∷ [])

@@ -11,7 +11,8 @@ use Rattle.session_states.specs.declared.states.State.{State}
 use Rattle.session_states.specs.declared.states.State.the-variants.{Idle, Offered, Unverified, Parameters, Ready, Charging, Stopping, Error}
 use Rattle.controller.specs.declared.Controller.{Controller}
 use Rattle.session_states.specs.Limits.{silenceLimit, closingLimit}
-use Rattle.demands.specs.Events.{Event, FrameReceived, TickMade, RecordWritten, RecordRead, accepts, after, noSession, endsWithin}
+use Rattle.demands.specs.Machine.{Call, Receive, Tick, Write, Read}
+use Rattle.demands.specs.After.{accepts, after, noSession, endsWithin}
 use Rattle.demands.specs.Apart.{fromStation}
 use Rattle.demands.specs.Says.{Says}
 
@@ -65,45 +66,45 @@ feeds Error (Ccs b) = false
 feeds Error (Cst b) = false
 feeds Error Cem = true
 
--- an event by which the session's station says nothing that the session heeds. By another's frame, a cell query, and a
+-- an call by which the session's station says nothing that the session heeds. By another's frame, a cell query, and a
 -- frame that 3 to 10 refuse, it says nothing at all
-unfoldable pub Unheeded : Controller → Event → Type 0
-Unheeded c (FrameReceived id s) =
+unfoldable pub Unheeded : Controller → Call → Type 0
+Unheeded c (Receive id s) =
     (m : ChargeMessage) → Says (c .settings) (c .session .station) m id s → feeds (c .session .state) m ≡ false
-Unheeded c (TickMade r v t old) = Unit {0}
-Unheeded c (RecordWritten old) = Unit {0}
-Unheeded c (RecordRead s) = Unit {0}
+Unheeded c (Tick r v t old) = Unit {0}
+Unheeded c (Write old) = Unit {0}
+Unheeded c (Read s) = Unit {0}
 
 -- as long as there is a session, nothing that its station says is heeded
-unfoldable pub Silence : Controller → List Event → Type 0
+unfoldable pub Silence : Controller → List Call → Type 0
 Silence c [] = Unit {0}
 Silence c (e ∷ es) = noSession c ≡ false → Unheeded c e × Silence (after c e) es
 
 -- a station that falls still altogether: no frame has `st` as its source part, but for cell queries
-unfoldable pub quietAt : ℕ → Event → Bool
-quietAt st (FrameReceived id s) = not (fromStation st id)
-quietAt st (TickMade r v t old) = true
-quietAt st (RecordWritten old) = true
-quietAt st (RecordRead s) = true
+unfoldable pub quietAt : ℕ → Call → Bool
+quietAt st (Receive id s) = not (fromStation st id)
+quietAt st (Tick r v t old) = true
+quietAt st (Write old) = true
+quietAt st (Read s) = true
 
-unfoldable pub sendsNothing : ℕ → List Event → Bool
+unfoldable pub sendsNothing : ℕ → List Call → Bool
 sendsNothing st [] = true
 sendsNothing st (e ∷ es) = quietAt st e && sendsNothing st es
 
 -- the ticks that are accepted
-unfoldable pub isAcceptedTick : Event → Bool
-isAcceptedTick (FrameReceived id s) = false
-isAcceptedTick (TickMade r v t old) = accepts r v t old
-isAcceptedTick (RecordWritten old) = false
-isAcceptedTick (RecordRead s) = false
+unfoldable pub isAcceptedTick : Call → Bool
+isAcceptedTick (Receive id s) = false
+isAcceptedTick (Tick r v t old) = accepts r v t old
+isAcceptedTick (Write old) = false
+isAcceptedTick (Read s) = false
 
-unfoldable pub ticksIn : List Event → ℕ
+unfoldable pub ticksIn : List Call → ℕ
 ticksIn [] = 0
 ticksIn (e ∷ es) = cond (isAcceptedTick e) 1 0 + ticksIn es
 
 -- a session whose station falls silent has ended by so many accepted ticks, whatever others send
 abbrev pub EndsBy : ℕ → Type 0
-EndsBy n = (c : Controller) (es : List Event) → Silence c es → n ≤ ticksIn es → endsWithin c es ≡ true
+EndsBy n = (c : Controller) (es : List Call) → Silence c es → n ≤ ticksIn es → endsWithin c es ≡ true
 
 -- "within 801 accepted ticks": silence runs up to its limit, the next tick enters Error, and its count runs up to its
 -- own

@@ -7,7 +7,7 @@ use mathlib.Core.List.{List, [], _∷_}
 use Rattle.settings.specs.declared.Settings.{Settings}
 use Rattle.charge_messages.specs.declared.ChargeMessage.{ChargeMessage}
 use Rattle.charge_messages.specs.declared.ChargeMessage.the-variants.{Cim, Cvm, Cmp, Crm, Ccs, Cst, Cem}
-use Rattle.demands.specs.Events.{Event, FrameReceived, TickMade, RecordWritten, RecordRead}
+use Rattle.demands.specs.Machine.{Call, Receive, Tick, Write, Read}
 use Rattle.demands.specs.Says.{Says}
 
 unfoldable pub isCim : ChargeMessage → Bool
@@ -29,11 +29,11 @@ isHandshake (Ccs b) = false
 isHandshake (Cst b) = false
 isHandshake Cem = false
 
--- over a list of events the station `st` says these charge messages and no others, as often as it likes
-unfoldable pub SaysOnly : (ChargeMessage → Bool) → Settings → ℕ → List Event → Type 0
+-- over a list of calls the station `st` says these charge messages and no others, as often as it likes
+unfoldable pub SaysOnly : (ChargeMessage → Bool) → Settings → ℕ → List Call → Type 0
 SaysOnly these x st [] = Unit {0}
-SaysOnly these x st (FrameReceived id s ∷ es) =
+SaysOnly these x st (Receive id s ∷ es) =
     ((m : ChargeMessage) → Says x st m id s → these m ≡ true) × SaysOnly these x st es
-SaysOnly these x st (TickMade r v t old ∷ es) = SaysOnly these x st es
-SaysOnly these x st (RecordWritten old ∷ es) = SaysOnly these x st es
-SaysOnly these x st (RecordRead s ∷ es) = SaysOnly these x st es
+SaysOnly these x st (Tick r v t old ∷ es) = SaysOnly these x st es
+SaysOnly these x st (Write old ∷ es) = SaysOnly these x st es
+SaysOnly these x st (Read s ∷ es) = SaysOnly these x st es

@@ -11,17 +11,18 @@ use Rattle.controller.specs.declared.Controller.{Controller}
 use Rattle.controller.specs.Frame.{frameTo}
 use Rattle.controller.specs.Tick.{broadcastFrames, cellFrames}
 use Rattle.controller.specs.With.{withSession}
-use Rattle.demands.specs.Events.{Event, FrameReceived, TickMade, RecordWritten, RecordRead, accepts, after, isCharge}
+use Rattle.demands.specs.Machine.{Call, Receive, Tick, Write, Read}
+use Rattle.demands.specs.After.{accepts, after, isCharge}
 
 -- a frame that by its PF is a charge message, well formed or not, from any address
-unfoldable pub isChargeMessage : Event → Bool
-isChargeMessage (FrameReceived id s) = isCharge id
-isChargeMessage (TickMade r v t old) = false
-isChargeMessage (RecordWritten old) = false
-isChargeMessage (RecordRead s) = false
+unfoldable pub isChargeMessage : Call → Bool
+isChargeMessage (Receive id s) = isCharge id
+isChargeMessage (Tick r v t old) = false
+isChargeMessage (Write old) = false
+isChargeMessage (Read s) = false
 
--- the events without the charge messages
-unfoldable pub others : List Event → List Event
+-- the calls without the charge messages
+unfoldable pub others : List Call → List Call
 others [] = []
 others (e ∷ es) = cond (isChargeMessage e) (others es) (e ∷ others es)
 
@@ -37,13 +38,13 @@ broadcastsAt c r v t old = cond (accepts r v t old) (broadcastFrames c r v t) []
 unfoldable pub cellsAt : Controller → Readings → List ℕ → List ℤ → List ℕ → List Frame
 cellsAt c r v t old = cond (accepts r v t old) (cellFrames c r v t) []
 
-unfoldable pub outputAt : Controller → Event → List Output
-outputAt c (FrameReceived id s) = cond (isCharge id) [] (NumberGiven (frameTo c id s .number) ∷ [])
-outputAt c (TickMade r v t old) = FramesSent (broadcastsAt c r v t old) (cellsAt c r v t old) ∷ []
-outputAt c (RecordWritten old) = []
-outputAt c (RecordRead s) = []
+unfoldable pub outputAt : Controller → Call → List Output
+outputAt c (Receive id s) = cond (isCharge id) [] (NumberGiven (frameTo c id s .number) ∷ [])
+outputAt c (Tick r v t old) = FramesSent (broadcastsAt c r v t old) (cellsAt c r v t old) ∷ []
+outputAt c (Write old) = []
+outputAt c (Read s) = []
 
-unfoldable pub outputs : Controller → List Event → List Output
+unfoldable pub outputs : Controller → List Call → List Output
 outputs c [] = []
 outputs c (e ∷ es) = outputAt c e ++ outputs (after c e) es
 

@@ -1,5 +1,5 @@
--- What can happen to a controller in use, and the controller after it: the calls of `Machine` (`after-is`). For every
--- statement over a run of events.
+-- The controller in use after a call of the paper's machine (`after-is`, and over a list `after-all-is`). For every
+-- statement over a run of calls.
 use Prim.Native.Nat.{ℕ}
 use mathlib.Core.Bool.{Bool, true, false, cond, _||_}
 use mathlib.Core.List.{List, [], _∷_}
@@ -22,19 +22,6 @@ use Rattle.refusals.specs.Tick.{tickNumber}
 use Rattle.controller.specs.Start.{freshOf}
 use Rattle.demands.specs.Machine.{Call, Read, Receive, Tick, Write, paperNext}
 
--- a received frame, well formed or not; a tick, with all that it lends; settings written; a settings record read
-pub data Event : Type 0 where
-  FrameReceived : ℕ → List ℕ → Event
-  TickMade : Readings → List ℕ → List ℤ → List ℕ → Event
-  RecordWritten : List ℕ → Event
-  RecordRead : List ℕ → Event
-
-abbrev pub callOf : Event → Call
-callOf (FrameReceived id s) = Receive id s
-callOf (TickMade r v t old) = Tick r v t old
-callOf (RecordWritten old) = Write old
-callOf (RecordRead s) = Read s
-
 -- whether a tick is accepted is told by what it lends
 unfoldable pub accepts : Readings → List ℕ → List ℤ → List ℕ → Bool
 accepts r v t old = eqb (tickNumber r v t (length old)) 0
@@ -49,13 +36,13 @@ unfoldable pub readInto : SettingsRead → Controller → Controller
 readInto (read.Read x) c = freshOf x
 readInto (read.Refused n) c = c
 
-unfoldable pub after : Controller → Event → Controller
-after c (FrameReceived id s) = frameTo c id s .controller
-after c (TickMade r v t old) = cond (accepts r v t old) (paperNext c r v t) c
-after c (RecordWritten old) = c
-after c (RecordRead s) = readInto (readOf s) c
+unfoldable pub after : Controller → Call → Controller
+after c (Receive id s) = frameTo c id s .controller
+after c (Tick r v t old) = cond (accepts r v t old) (paperNext c r v t) c
+after c (Write old) = c
+after c (Read s) = readInto (readOf s) c
 
-unfoldable pub afterAll : Controller → List Event → Controller
+unfoldable pub afterAll : Controller → List Call → Controller
 afterAll c [] = c
 afterAll c (e ∷ es) = afterAll (after c e) es
 
@@ -63,8 +50,8 @@ afterAll c (e ∷ es) = afterAll (after c e) es
 unfoldable pub noSession : Controller → Bool
 noSession c = isIdle (c .session .state)
 
--- there is no session at some place of the list: before it, between two events or after the last
-unfoldable pub endsWithin : Controller → List Event → Bool
+-- there is no session at some place of the list: before it, between two calls or after the last
+unfoldable pub endsWithin : Controller → List Call → Bool
 endsWithin c [] = noSession c
 endsWithin c (e ∷ es) = noSession c || endsWithin (after c e) es
 
