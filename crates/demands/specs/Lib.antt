@@ -1,6 +1,7 @@
 pub mod Machine
 pub mod InStep
 pub mod Calls
+pub mod Steps
 pub mod WorkedRows
 pub mod PaperNumbers
 pub mod After
