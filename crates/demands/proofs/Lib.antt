@@ -1,5 +1,6 @@
 pub mod Tests
 pub mod Steps
+pub mod Sent
 pub mod Demand2
 pub mod Calls
 pub mod WorkedRows
