@@ -1,12 +1,14 @@
 pub mod Tests
 pub mod Steps
 pub mod Sent
+pub mod FrameKinds
 pub mod Demand2
 pub mod Calls
 pub mod WorkedRows
 pub mod PaperNumbers
 pub mod View
 pub mod Comes
+pub mod Addresses
 pub mod Outcomes
 pub mod Messages
 pub mod Gone

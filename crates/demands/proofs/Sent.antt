@@ -224,7 +224,7 @@ module _ (These : Row → Type 0) (own : ℕ) (v : List ℕ) (t : List ℤ) wher
   group-made source Voltages group h = Make (groupRow Voltages group) h _ _ _ _ _ _ _ _
   group-made source Temperatures group h = Make (groupRow Temperatures group) h _ _ _ _ _ _ _ _
 
-  query-made : (q : Query) → These (groupRow (q .kind) (q .group)) → Made These (q .source) own (groupFrame own v t q)
+  pub query-made : (q : Query) → These (groupRow (q .kind) (q .group)) → Made These (q .source) own (groupFrame own v t q)
   unfolding groupFrame
   query-made q h = group-made (q .source) (q .kind) (q .group) h
 

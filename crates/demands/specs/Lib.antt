@@ -1,7 +1,7 @@
 pub mod Machine
 pub mod InStep
 pub mod Sent
-pub mod Kinds
+pub mod FrameKinds
 pub mod Calls
 pub mod Steps
 pub mod WorkedRows
