@@ -34,7 +34,7 @@ left-in-the-buffer c r v t old new k h = rw (h .bytes, h .later) (either (accept
     either false = none-written old
 
 -- one call
-one-seen : (b : Box) (m : CallMade) → KeepsPromise b m → seenOf tickNext b (callIn m) ≡ inHand m
+pub one-seen : (b : Box) (m : CallMade) → KeepsPromise b m → seenOf tickNext b (callIn m) ≡ inHand m
 unfolding KeepsPromise callIn inHand
 one-seen b (DidRead s a) h = read-is-the-machine b s a (h .0) (h .1) .0
 one-seen NoController (DidReceive id s a) h = absurd h
@@ -45,7 +45,7 @@ one-seen (Using c) (DidTick r v t old new k) h =
 one-seen NoController (DidWrite old new w) h = absurd h
 one-seen (Using c) (DidWrite old new w) h = write-is-the-machine c old new w h .0
 
-one-box : (b : Box) (m : CallMade) → KeepsPromise b m → boxAfter tickNext b (callIn m) ≡ boxThen b m
+pub one-box : (b : Box) (m : CallMade) → KeepsPromise b m → boxAfter tickNext b (callIn m) ≡ boxThen b m
 unfolding KeepsPromise callIn boxThen
 one-box b (DidRead s a) h = read-is-the-machine b s a (h .0) (h .1) .1
 one-box NoController (DidReceive id s a) h = absurd h
