@@ -61,7 +61,7 @@ unfolding AllKeepPromises callsIn allInHand run
 all-seen b [] h = refl
 all-seen b (m ∷ ms) h = rw (one-seen b m (h .0), one-box b m (h .0), all-seen (boxThen b m) ms (h .1))
 
-all-boxes : (b : Box) (ms : List CallMade) → AllKeepPromises b ms → boxAt tickNext b (callsIn ms) ≡ boxLast b ms
+pub all-boxes : (b : Box) (ms : List CallMade) → AllKeepPromises b ms → boxAt tickNext b (callsIn ms) ≡ boxLast b ms
 unfolding AllKeepPromises callsIn boxAt boxLast
 all-boxes b [] h = refl
 all-boxes b (m ∷ ms) h =

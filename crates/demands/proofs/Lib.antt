@@ -22,6 +22,7 @@ pub mod Silent
 pub mod Together
 pub mod Unmoved
 pub mod Since
+pub mod StepsMade
 pub mod ReachFrames
 pub mod ReachStretches
 pub mod Reach

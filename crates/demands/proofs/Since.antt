@@ -42,14 +42,14 @@ after-all-is c [] = refl
 after-all-is c (k ∷ ks) = ap (λ (b : Box). boxAt paperNext b ks) (after-is c k) ∙ after-all-is (after c k) ks
 
 -- ---- every controller in use is a fresh one after the calls since a record was accepted
-using-same : (c d : Controller) → Using c ≡ Using d → c ≡ d
+pub using-same : (c d : Controller) → Using c ≡ Using d → c ≡ d
 using-same c d e = ap inside e
   where
     inside : Box → Controller
     inside NoController = c
     inside (Using z) = z
 
-none-in-use : (c : Controller) → NoController ≡ Using c → ⊥
+pub none-in-use : (c : Controller) → NoController ≡ Using c → ⊥
 none-in-use c e = false≢true (ap empty e)
   where
     empty : Box → Bool
