@@ -8,6 +8,7 @@ pub mod WorkedRows
 pub mod PaperNumbers
 pub mod View
 pub mod Comes
+pub mod Demand1
 pub mod Addresses
 pub mod Outcomes
 pub mod Messages

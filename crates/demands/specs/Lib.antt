@@ -3,6 +3,7 @@ pub mod InStep
 pub mod Sent
 pub mod FrameKinds
 pub mod Calls
+pub mod Refusals
 pub mod Steps
 pub mod WorkedRows
 pub mod PaperNumbers
