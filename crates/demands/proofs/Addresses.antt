@@ -44,6 +44,8 @@ use Rattle.controller.specs.Start.{freshOf, startWith, startOf}
 use Rattle.controller.specs.Frame.{kindOf, frameTo, sessionMoved, queriesMoved}
 use Rattle.controller.specs.Tick.{accepted}
 use Rattle.demands.specs.Machine.{Call, Read, Receive, Tick, Write, Box, NoController, Using, paperNext, started, boxAfter, boxAt}
+use Rattle.demands.specs.After.{after}
+use Rattle.demands.proofs.Since.{after-is}
 use Rattle.demands.proofs.View.{View, Refused, Asks, Charges, view}
 use Rattle.demands.proofs.Comes.{Comes, Left, Took, came, kept-settings}
 use Rattle.demands.proofs.FrameKinds.{Below, Bytes}
@@ -192,3 +194,8 @@ run-bytes b (k ∷ ks) h = run-bytes (boxAfter paperNext b k) ks (call-bytes b k
 pub addresses : (ks : List Call) (c : Controller) → boxAt paperNext NoController ks ≡ Using c → Bytes c
 unfolding BytesIn
 addresses ks c e = subst BytesIn e (run-bytes NoController ks tt)
+
+-- and after any call
+pub bytes-after : (c : Controller) (k : Call) → Bytes c → Bytes (after c k)
+unfolding BytesIn
+bytes-after c k b = subst BytesIn (after-is c k) (call-bytes (Using c) k b)

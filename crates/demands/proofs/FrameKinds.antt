@@ -27,6 +27,7 @@ use Rattle.queries.specs.Answering.{perGroup, groupRow, groupFrame, tableLength
 use Rattle.controller.specs.declared.Controller.{Controller}
 use Rattle.controller.specs.Tick.{tickFrames, chargeFrames, broadcastFrames, cellFrames}
 use Rattle.demands.specs.FrameKinds.{pfIn, chargeRows, someRow, isChargeFrame, isBroadcast, isCellFrame, only}
+use Rattle.demands.specs.Told.{isBeside}
 use Rattle.demands.proofs.Sent.{Each, each-map, each-if, each-one, each-none, Made, Make, Ten, Five, charge-made, broadcast-made, query-made}
 
 -- ---- the PF of an identifier that we send is the row's
@@ -224,4 +225,14 @@ module _ (c : Controller) (b : Bytes c) (r : Readings) (v : List ℕ) (t : List 
         only-none isCellFrame _ (each-map _ (λ g k. k .is-cell) charge-kind),
         only-none isCellFrame _ (each-map _ (λ g k. k .is-cell) broadcast-kind),
         only-all isCellFrame _ (each-map _ (λ g k. k .is-cell) cell-kind),
+      )
+
+  -- and the broadcasts and the cell frame together
+  pub beside-told : only isBeside (tickFrames c r v t) ≡ broadcastFrames c r v t ++ cellFrames c r v t
+  beside-told =
+      parts isBeside
+      ∙ rw (
+        only-none isBeside _ (each-map _ (λ g k. rw (k .is-broadcast, k .is-cell)) charge-kind),
+        only-all isBeside _ (each-map _ (λ g k. rw (k .is-broadcast)) broadcast-kind),
+        only-all isBeside _ (each-map _ (λ g k. rw (k .is-broadcast, k .is-cell)) cell-kind),
       )

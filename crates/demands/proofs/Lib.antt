@@ -22,6 +22,7 @@ pub mod Apart
 pub mod Silent
 pub mod Together
 pub mod Unmoved
+pub mod Told
 pub mod Since
 pub mod StepsMade
 pub mod ReachFrames

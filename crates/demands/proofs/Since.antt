@@ -5,7 +5,10 @@ use Prim.Native.Nat.{ℕ}
 use mathlib.Core.Path.{_≡_, refl, sym, ap, _∙_}
 use mathlib.Core.Bool.{Bool, true, false, cond, false≢true}
 use mathlib.Core.List.{List, [], _∷_, _++_}
+use borrow.Author.Tests.{eqb-true}
+use lib.Dec.{eqb}
 use lib.IntN.{ℤ}
+use lib.ListN.{length}
 use Rattle.frames.specs.declared.Frame.{Frame}
 use Rattle.readings.specs.declared.Readings.{Readings}
 use Rattle.settings.specs.declared.SettingsRead.{SettingsRead}
@@ -14,11 +17,12 @@ use Rattle.settings.specs.Read.{readOf}
 use Rattle.controller.specs.declared.Controller.{Controller}
 use Rattle.controller.specs.Start.{freshOf, startWith, startOf}
 use Rattle.controller.specs.Frame.{frameTo}
+use Rattle.refusals.specs.Tick.{tickNumber}
 use Rattle.controller.specs.Tick.{chargeFrames, broadcastFrames, cellFrames, tickFrames, accepted}
 use Rattle.demands.specs.Machine.{Call, Read, Receive, Tick, Write, Box, NoController, Using, Gave, paperNext, started, boxAfter, seenOf, boxAt, numberSeen, framesSeen}
 use Rattle.demands.specs.After.{accepts, readInto, after, afterAll}
 use Rattle.demands.specs.Apart.{sentAt}
-use Rattle.demands.specs.Unmoved.{broadcastsAt, cellsAt}
+use Rattle.demands.specs.Unmoved.{besideAt}
 use Rattle.demands.specs.Since.{Since}
 
 -- ---- from a controller on, the machine's boxes are the controllers after the calls
@@ -94,18 +98,27 @@ module _ (c : Controller) where
   since (Tick r v t old ∷ ks) h = one-earlier (Tick r v t old) ks (since ks h)
   since (Write old ∷ ks) h = one-earlier (Write old) ks (since ks h)
 
--- what a tick is seen to send: charge frames, then broadcasts, then the cell frame
-both-ways : (t : Bool) (n k m j : ℕ) (l o : List ℕ) (x y z : List Frame)
-    → framesSeen (cond t (Gave n k (x ++ (y ++ z)) l) (Gave m j [] o)) ≡ cond t x [] ++ (cond t y [] ++ cond t z [])
+-- what a tick is seen to answer and to send: charge frames, then broadcasts and the cell frame
+both-ways : (t : Bool) (n k m j : ℕ) (l o : List ℕ) (x y : List Frame)
+    → framesSeen (cond t (Gave n k (x ++ y) l) (Gave m j [] o)) ≡ cond t x [] ++ cond t y []
 unfolding framesSeen
-both-ways true n k m j l o x y z = refl
-both-ways false n k m j l o x y z = refl
+both-ways true n k m j l o x y = refl
+both-ways false n k m j l o x y = refl
+
+number-both : (t : Bool) (n k j : ℕ) (l o : List ℕ) (x : List Frame) → eqb n 0 ≡ t
+    → numberSeen (cond t (Gave 0 k x l) (Gave n j [] o)) ≡ n
+unfolding numberSeen
+number-both true n k j l o x h = sym (eqb-true n 0 h)
+number-both false n k j l o x h = refl
 
 pub seen-tick : (c : Controller) (r : Readings) (v : List ℕ) (t : List ℤ) (old : List ℕ)
-    → framesSeen (seenOf paperNext (Using c) (Tick r v t old)) ≡ sentAt c r v t old ++ (broadcastsAt c r v t old ++ cellsAt c r v t old)
-unfolding seenOf sentAt broadcastsAt cellsAt accepts accepted tickFrames
-seen-tick c r v t old =
-    both-ways (accepts r v t old) _ _ _ _ _ _ (chargeFrames c r v t) (broadcastFrames c r v t) (cellFrames c r v t)
+    → (numberSeen (seenOf paperNext (Using c) (Tick r v t old)) ≡ tickNumber r v t (length old))
+    × (framesSeen (seenOf paperNext (Using c) (Tick r v t old)) ≡ sentAt c r v t old ++ besideAt c r v t old)
+unfolding seenOf sentAt besideAt accepts accepted tickFrames
+seen-tick c r v t old = (
+  number-both (accepts r v t old) (tickNumber r v t (length old)) _ _ _ _ _ refl,
+  both-ways (accepts r v t old) _ _ _ _ _ _ (chargeFrames c r v t) (broadcastFrames c r v t ++ cellFrames c r v t),
+)
 
 -- what a frame is seen to be answered, and that it sends nothing
 pub seen-frame : (c : Controller) (id : ℕ) (s : List ℕ)

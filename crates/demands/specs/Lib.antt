@@ -17,6 +17,7 @@ pub mod Gone
 pub mod Silent
 pub mod SilentSlips
 pub mod Unmoved
+pub mod Told
 pub mod Requests
 pub mod Since
 pub mod Reach
