@@ -17,3 +17,4 @@ pub mod Unmoved
 pub mod Requests
 pub mod Since
 pub mod Reach
+pub mod GoneOut
