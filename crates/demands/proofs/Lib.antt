@@ -33,3 +33,6 @@ pub mod ReachRun
 pub mod SilentFrames
 pub mod SilentSlips
 pub mod SilentRun
+pub mod GoneOutMoves
+pub mod GoneOutLaw
+pub mod GoneOut

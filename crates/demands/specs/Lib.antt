@@ -21,3 +21,4 @@ pub mod Told
 pub mod Requests
 pub mod Since
 pub mod Reach
+pub mod GoneOut
