@@ -27,15 +27,13 @@ use Rattle.controller.specs.Frame.{refused, frameTo}
 use Rattle.controller.specs.Start.{freshOf}
 use Rattle.demands.specs.Says.{Says}
 use Rattle.demands.specs.Machine.{Call, Receive, Tick, Write, Read}
-use Rattle.demands.specs.After.{accepts, readInto, isRead, after, afterAll, noSession}
-use Rattle.demands.specs.Gone.{estGone}
+use Rattle.demands.specs.After.{accepts, readInto, isRead, after, noSession}
 use Rattle.session_states.specs.States.{isCharging, isStopping}
 use Rattle.demands.specs.Stops.{whyOf, endsFor, leavesFor}
 use Rattle.demands.specs.Ends.{messageEnds, messageLeaves, EndsSession, ByCem, ByCst, ByTick, ByReading, EndsCharge, AtCcs, AtCst, AtCem, AtTick, AtReading}
 use Rattle.controller.specs.Frame.{sessionMoved}
 use Rattle.demands.proofs.Comes.{Comes, Left, Took, came, station-is, taken-in}
 use Rattle.demands.proofs.Messages.{ends-message, leaves-message}
-use Rattle.demands.proofs.Gone.{est-gone}
 use Rattle.demands.proofs.Stops.{charging-open, which-tick-ends-a-session, which-tick-ends-a-charge}
 
 stopping-open : (st : State) → isStopping st ≡ true → isIdle st ≡ false
@@ -196,40 +194,31 @@ module _ (c : Controller) where
   each-ends-a-charge e h (AtTick {r = r} {v = v} {t = t} {old = old} k w) = which-tick-ends-a-charge c r v t old h ∙ rw (k, w)
   each-ends-a-charge e h (AtReading {s = s} k) = read-charging (readOf s) c h ∙ ap not k
 
--- ---- over any run from a fresh controller, the EST told by the frames sent
-module _ (x : Settings) (es : List Call) where
-  abbrev now-in-use : Controller
-  now-in-use = afterAll (freshOf x) es
+-- ---- an EST told otherwise than by the count, where in Stopping both tell the same
+module _ (c : Controller) (told : Bool) (h : isStopping (c .session .state) ≡ true → ltb 0 (c .session .count) ≡ told) where
+  retold : (e : Call) → EndsSession (ltb 0 (c .session .count)) c e → EndsSession told c e
+  retold e (ByCem says) = ByCem says
+  retold e (ByCst says stopping gone) = ByCst says stopping (sym (h stopping) ∙ gone)
+  retold e (ByTick k w) = ByTick k w
+  retold e (ByReading k) = ByReading k
 
-  abbrev Agrees : Bool → Type 0
-  Agrees g = isStopping (now-in-use .session .state) ≡ true → ltb 0 (now-in-use .session .count) ≡ g
+  untold : (e : Call) → EndsSession told c e → EndsSession (ltb 0 (c .session .count)) c e
+  untold e (ByCem says) = ByCem says
+  untold e (ByCst says stopping gone) = ByCst says stopping (h stopping ∙ gone)
+  untold e (ByTick k w) = ByTick k w
+  untold e (ByReading k) = ByReading k
 
-  regone : (g : Bool) (e : Call) → Agrees g → EndsSession (ltb 0 (now-in-use .session .count)) now-in-use e → EndsSession g now-in-use e
-  regone g e h (ByCem says) = ByCem says
-  regone g e h (ByCst says stopping gone) = ByCst says stopping (sym (h stopping) ∙ gone)
-  regone g e h (ByTick k w) = ByTick k w
-  regone g e h (ByReading k) = ByReading k
-
-  ungone : (g : Bool) (e : Call) → Agrees g → EndsSession g now-in-use e → EndsSession (ltb 0 (now-in-use .session .count)) now-in-use e
-  ungone g e h (ByCem says) = ByCem says
-  ungone g e h (ByCst says stopping gone) = ByCst says stopping (h stopping ∙ gone)
-  ungone g e h (ByTick k w) = ByTick k w
-  ungone g e h (ByReading k) = ByReading k
-
-  -- THE ANSWER: what ends a session
-  pub what-ends-a-session : (e : Call) → noSession now-in-use ≡ false → noSession (after now-in-use e) ≡ true
-      → EndsSession (estGone false (freshOf x) es) now-in-use e
-  what-ends-a-session e h k = regone (estGone false (freshOf x) es) e (est-gone x es) (ended-call now-in-use e h k)
+  -- THE ANSWER, of one call of the machine: what ends a session
+  pub what-ends-a-session : (e : Call) → noSession c ≡ false → noSession (after c e) ≡ true → EndsSession told c e
+  what-ends-a-session e o k = retold e (ended-call c e o k)
 
   -- and each of these does
-  pub each-ends-a-session : (e : Call) → noSession now-in-use ≡ false → EndsSession (estGone false (freshOf x) es) now-in-use e
-      → noSession (after now-in-use e) ≡ true
-  each-ends-a-session e h k = call-ends now-in-use e h (ungone (estGone false (freshOf x) es) e (est-gone x es) k)
+  pub each-ends-a-session : (e : Call) → noSession c ≡ false → EndsSession told c e → noSession (after c e) ≡ true
+  each-ends-a-session e o k = call-ends c e o (untold e k)
 
   -- THE INCIDENT's other form: an acknowledgement that comes in Stopping before an EST of ours has gone out is answered
   -- 11 and changes nothing
-  pub early-acknowledgement : (id : ℕ) (s : List ℕ) → isStopping (now-in-use .session .state) ≡ true → estGone false (freshOf x) es ≡ false
-      → Says (now-in-use .settings) (now-in-use .session .station) (Cst true) id s → frameTo now-in-use id s ≡ refused 11 now-in-use
-  early-acknowledgement id s h g says =
-      taken-in now-in-use id s (Cst true) (stopping-open (now-in-use .session .state) h) says
-      ∙ refuses-early now-in-use (est-gone x es h ∙ g) h
+  pub early-acknowledgement : (id : ℕ) (s : List ℕ) → isStopping (c .session .state) ≡ true → told ≡ false
+      → Says (c .settings) (c .session .station) (Cst true) id s → frameTo c id s ≡ refused 11 c
+  early-acknowledgement id s st g says =
+      taken-in c id s (Cst true) (stopping-open (c .session .state) st) says ∙ refuses-early c (h st ∙ g) st

@@ -12,7 +12,6 @@ pub mod Demand1
 pub mod Addresses
 pub mod Outcomes
 pub mod Messages
-pub mod Gone
 pub mod Ends
 pub mod Over
 pub mod Requests
@@ -23,6 +22,7 @@ pub mod Silent
 pub mod Together
 pub mod Unmoved
 pub mod Told
+pub mod OfCalls
 pub mod Since
 pub mod StepsMade
 pub mod ReachFrames

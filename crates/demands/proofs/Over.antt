@@ -53,7 +53,7 @@ module _ (c : Controller) (id : ℕ) (s : List ℕ) (h : c .session .state ≡ I
   unfolding sessionMoved messageOf appliedOf outcomeOf
   kept-11 m e = rw (h, e)
 
-  ignored : (m : ChargeMessage) → frameTo c id s ≡ taken m → inIdle m ≡ Refuse → Ignored c id s
+  ignored : (m : ChargeMessage) → frameTo c id s ≡ taken m → inIdle m ≡ Refuse → Ignored c id s (frameTo c id s)
   ignored m k e =
       record {
         session = ap (λ (a : Answer). a .controller .session) k ∙ kept m e;
@@ -61,7 +61,7 @@ module _ (c : Controller) (id : ℕ) (s : List ℕ) (h : c .session .state ≡ I
       }
 
   by-message : (m : ChargeMessage) → Says (c .settings) (partsOf id .source) m id s → mayCharge c (partsOf id .source) ≡ true → frameTo c id s ≡ taken m
-      → Opens c id s ⊎ Ignored c id s
+      → Opens c id s (frameTo c id s) ⊎ Ignored c id s (frameTo c id s)
   unfolding inIdle
   by-message Cim says may k = inl
       (record {
@@ -77,12 +77,12 @@ module _ (c : Controller) (id : ℕ) (s : List ℕ) (h : c .session .state ≡ I
   by-message (Cst b) says may k = inr (ignored (Cst b) k refl)
   by-message Cem says may k = inr (ignored Cem k refl)
 
-  by-came : Comes c id s (frameTo c id s) → Opens c id s ⊎ Ignored c id s
+  by-came : Comes c id s (frameTo c id s) → Opens c id s (frameTo c id s) ⊎ Ignored c id s (frameTo c id s)
   by-came (Left u k n) = inr (record { session = k; number = λ e. n e .number })
   by-came (Took m says may k) = by-message m says may k
 
   -- every frame in Idle
-  pub over : Opens c id s ⊎ Ignored c id s
+  pub over : Opens c id s (frameTo c id s) ⊎ Ignored c id s (frameTo c id s)
   over = by-came (came c id s)
 
   may-is : (source : ℕ) → mayCharge c source ≡ listed source (c .settings .stations)
@@ -90,7 +90,7 @@ module _ (c : Controller) (id : ℕ) (s : List ℕ) (h : c .session .state ≡ I
   may-is source = rw h
 
   -- and each well-formed CIM from a listed station opens one
-  pub each-opens : Says (c .settings) (partsOf id .source) Cim id s → listed (partsOf id .source) (c .settings .stations) ≡ true → Opens c id s
+  pub each-opens : Says (c .settings) (partsOf id .source) Cim id s → listed (partsOf id .source) (c .settings .stations) ≡ true → Opens c id s (frameTo c id s)
   each-opens says l =
       let k : frameTo c id s ≡ taken Cim = says-taken c id s (partsOf id .source) Cim says (may-is (partsOf id .source) ∙ l) in
       record {

@@ -13,12 +13,13 @@ pub mod Ends
 pub mod Over
 pub mod Stops
 pub mod Apart
-pub mod Gone
 pub mod Silent
 pub mod SilentSlips
 pub mod Unmoved
 pub mod Told
+pub mod SilentIn
 pub mod Requests
 pub mod Since
 pub mod Reach
 pub mod GoneOut
+pub mod Statements

@@ -1,0 +1,300 @@
+-- THE STATEMENTS, to be read aloud: one for each sentence of docs/INSURER.md and docs/PROMISES.md that claims something
+-- of the controller, in their order. Each is of the calls that were made and of what they gave: `AfterCalls ms c` is
+-- "after the calls `ms` from the start the controller in use is `c`", `NextCall c m` "the call `m` is made then", and
+-- `useThen c m` is the controller in use after it. The theorems of these types stand in proofs/OfCalls.antt and
+-- proofs/OfRuns.antt; a theorem's name is its statement's, in small letters.
+use Prim.Native.Nat.{ℕ, _≤_}
+use mathlib.Core.Logic.{_⊎_}
+use mathlib.Core.Path.{_≡_}
+use mathlib.Core.Bool.{Bool, true, false, cond}
+use mathlib.Core.List.{List, [], _∷_}
+use lib.Dec.{ltb}
+use lib.IntN.{ℤ}
+use Rattle.messages.specs.Identifier.{partsOf}
+use Rattle.settings.specs.declared.Settings.{Settings}
+use Rattle.settings.specs.declared.SettingsRead.the-variants as read
+use Rattle.settings.specs.Read.{readOf}
+use Rattle.readings.specs.declared.Readings.{Readings}
+use Rattle.cells.specs.Summaries.{cellsOf}
+use Rattle.charge_messages.specs.declared.Offer.{Offer}
+use Rattle.charge_messages.specs.declared.ChargeMessage.the-variants.{Cim, Cvm, Cmp, Crm, Cst}
+use Rattle.session_states.specs.declared.phases.Phase.{Phase}
+use Rattle.session_states.specs.declared.states.State.the-variants.{Idle, Parameters, Charging}
+use Rattle.session_states.specs.States.{isCharging, isStopping}
+use Rattle.session.specs.Session.{opened}
+use Rattle.refusals.specs.Frame.{listed}
+use Rattle.controller.specs.declared.Controller.{Controller}
+use Rattle.controller.specs.declared.Answer.{Answer}
+use Rattle.controller.specs.declared.Ticked.{Ticked}
+use Rattle.demands.specs.Machine.{Call, Read, Receive, Box, NoController, Using, paperNext, run, boxAt}
+use Rattle.demands.specs.InStep.{InStep}
+use Rattle.demands.specs.Calls.{CallMade, DidRead, DidReceive, DidTick, DidWrite, callIn, KeepsPromise, AllKeepPromises, callsIn, allInHand, boxLast}
+use Rattle.demands.specs.Steps.{Step, stepsMade}
+use Rattle.demands.specs.Since.{AfterCalls, useThen, useLast}
+use Rattle.demands.specs.Refusals.{numberGiven, LeftAsItWas}
+use Rattle.demands.specs.After.{noSession}
+use Rattle.demands.specs.Says.{Says}
+use Rattle.demands.specs.Stops.{whyOf, LeadsTo}
+use Rattle.demands.specs.Ends.{EndsSession, EndsCharge}
+use Rattle.demands.specs.Over.{Opens, Ignored}
+use Rattle.demands.specs.GoneOut.{Watch, gone, eim, ecp, erm, est, isOffered, isParameters, isReady}
+use Rattle.demands.specs.Apart.{reaches, reaching}
+use Rattle.demands.specs.Unmoved.{others}
+use Rattle.demands.specs.Told.{lifeIn, placeOfEnd, endsIn, outputsIn}
+use Rattle.demands.specs.Silent.{sendsNothing, ticksIn, longest}
+use Rattle.demands.specs.SilentIn.{SilentIn}
+use Rattle.demands.specs.SilentSlips.{isCim, isHandshake, SaysOnly}
+use Rattle.demands.specs.Reach.{UntilCvm, Follows, chargingWith}
+use Rattle.demands.specs.Requests.{requestIn}
+use Rattle.demands.specs.WorkedRows.{WorkedRows}
+use Rattle.demands.specs.PaperNumbers.{PaperNumbers}
+
+-- one call more of a controller in use, and several
+abbrev pub NextCall : Controller → CallMade → Type 0
+NextCall c m = KeepsPromise (Using c) m
+
+abbrev pub NextCalls : Controller → List CallMade → Type 0
+NextCalls c ms = AllKeepPromises (Using c) ms
+
+-- whether the frame watched for is among the frames that the calls have sent since the state began in which the session
+-- is now
+abbrev pub hasGone : Watch → List CallMade → Bool
+hasGone w ms = gone w false (stepsMade NoController ms)
+
+-- ==== docs/INSURER.md: which message, in which state, may end a charge?
+
+-- "What ends a session": after any calls from the start, a call after which an open session is over is one of these: a
+-- CEM of its station; a CST AA of its station in Stopping, an EST of ours having gone out since Stopping began; a tick,
+-- by one of the rules that end; new settings
+abbrev pub WhatEndsASession : Type 0
+WhatEndsASession =
+    (ms : List CallMade) (c : Controller) (m : CallMade) → AfterCalls ms c → NextCall c m
+    → noSession c ≡ false → noSession (useThen c m) ≡ true → EndsSession (hasGone est ms) c (callIn m)
+
+-- "and the other way": after each of these it is over
+abbrev pub EachEndsASession : Type 0
+EachEndsASession =
+    (ms : List CallMade) (c : Controller) (m : CallMade) → AfterCalls ms c → NextCall c m
+    → noSession c ≡ false → EndsSession (hasGone est ms) c (callIn m) → noSession (useThen c m) ≡ true
+
+-- "the EST has gone out is read off the frames that the calls have sent, and Stopping's count, which the code looks at,
+-- tells exactly this"
+abbrev pub EstGone : Type 0
+EstGone =
+    (ms : List CallMade) (c : Controller) → AfterCalls ms c
+    → isStopping (c .session .state) ≡ true → ltb 0 (c .session .count) ≡ hasGone est ms
+
+-- "An acknowledgement that comes before our EST is answered 11 and changes nothing"
+abbrev pub EarlyAcknowledgement : Type 0
+EarlyAcknowledgement =
+    (ms : List CallMade) (c : Controller) (id : ℕ) (s : List ℕ) (a : Answer) → AfterCalls ms c
+    → NextCall c (DidReceive id s a) → Says (c .settings) (c .session .station) (Cst true) id s
+    → isStopping (c .session .state) ≡ true → hasGone est ms ≡ false → (a .number ≡ 11) × (a .controller ≡ c)
+
+-- "What ends a charge": a call after which Charging is left is one of these: a CCS 00, a CST or a CEM of its station; a
+-- tick, by one of the rules that leave Charging; new settings
+abbrev pub WhatEndsACharge : Type 0
+WhatEndsACharge =
+    (ms : List CallMade) (c : Controller) (m : CallMade) → AfterCalls ms c → NextCall c m
+    → isCharging (c .session .state) ≡ true → isCharging (useThen c m .session .state) ≡ false
+    → EndsCharge c (callIn m)
+
+abbrev pub EachEndsACharge : Type 0
+EachEndsACharge =
+    (ms : List CallMade) (c : Controller) (m : CallMade) → AfterCalls ms c → NextCall c m
+    → isCharging (c .session .state) ≡ true → EndsCharge c (callIn m)
+    → isCharging (useThen c m .session .state) ≡ false
+
+-- "What a tick does": an accepted tick leads where the first of the paper's rules that holds says
+abbrev pub WhatATickDoes : Type 0
+WhatATickDoes =
+    (ms : List CallMade) (c : Controller) (r : Readings) (v : List ℕ) (t : List ℤ) (old new : List ℕ) (k : Ticked)
+    → AfterCalls ms c → NextCall c (DidTick r v t old new k) → k .number ≡ 0
+    → LeadsTo (c .settings) r (cellsOf v t) (c .session .state) (whyOf (c .settings) r (cellsOf v t) (c .session))
+    (k .controller .session .state)
+
+-- "A refused tick changes nothing"
+abbrev pub WhatARefusedTickDoes : Type 0
+WhatARefusedTickDoes =
+    (ms : List CallMade) (c : Controller) (r : Readings) (v : List ℕ) (t : List ℤ) (old new : List ℕ) (k : Ticked)
+    → AfterCalls ms c → NextCall c (DidTick r v t old new k) → (k .number ≡ 0 → ⊥)
+    → (k .controller ≡ c) × (new ≡ old)
+
+-- "in Idle no tick changes the session"
+abbrev pub WhatATickDoesInIdle : Type 0
+WhatATickDoesInIdle =
+    (ms : List CallMade) (c : Controller) (r : Readings) (v : List ℕ) (t : List ℤ) (old new : List ℕ) (k : Ticked)
+    → AfterCalls ms c → NextCall c (DidTick r v t old new k) → noSession c ≡ true
+    → k .controller .session ≡ c .session
+
+-- "Once its session is over a frame means nothing to it": in Idle a frame is a well-formed CIM of a listed station, and
+-- opens a session with it; or the session is as it was, and the frame is refused where it is a charge message
+abbrev pub Over : Type 0
+Over =
+    (ms : List CallMade) (c : Controller) (id : ℕ) (s : List ℕ) (a : Answer) → AfterCalls ms c
+    → NextCall c (DidReceive id s a) → noSession c ≡ true → Opens c id s a ⊎ Ignored c id s a
+
+-- "each such CIM opens a session with its source"
+abbrev pub EachOpens : Type 0
+EachOpens =
+    (ms : List CallMade) (c : Controller) (id : ℕ) (s : List ℕ) (a : Answer) → AfterCalls ms c
+    → NextCall c (DidReceive id s a) → noSession c ≡ true → Says (c .settings) (partsOf id .source) Cim id s
+    → listed (partsOf id .source) (c .settings .stations) ≡ true → Opens c id s a
+
+-- "A replayed acknowledgement in Idle is answered 11 where a listed station sends it and 9 where anyone else does, and
+-- changes nothing at all"
+abbrev pub ReplayedAcknowledgement : Type 0
+ReplayedAcknowledgement =
+    (ms : List CallMade) (c : Controller) (source id : ℕ) (s : List ℕ) (a : Answer) → AfterCalls ms c
+    → NextCall c (DidReceive id s a) → noSession c ≡ true → Says (c .settings) source (Cst true) id s
+    → (a .number ≡ cond (listed source (c .settings .stations)) 11 9) × (a .controller ≡ c)
+
+-- "a CVM is taken in Offered only once an EIM AA has gone out"
+abbrev pub CvmTaken : Type 0
+CvmTaken =
+    (ms : List CallMade) (c : Controller) (b : Bool) (id : ℕ) (s : List ℕ) (a : Answer) → AfterCalls ms c
+    → NextCall c (DidReceive id s a) → Says (c .settings) (c .session .station) (Cvm b) id s
+    → isOffered (c .session .state) ≡ true → a .number ≡ 0 → hasGone eim ms ≡ true
+
+-- "a CMP in Parameters only once an ECP has"
+abbrev pub CmpTaken : Type 0
+CmpTaken =
+    (ms : List CallMade) (c : Controller) (o : Offer) (id : ℕ) (s : List ℕ) (a : Answer) → AfterCalls ms c
+    → NextCall c (DidReceive id s a) → Says (c .settings) (c .session .station) (Cmp o) id s
+    → isParameters (c .session .state) ≡ true → a .number ≡ 0 → hasGone ecp ms ≡ true
+
+-- "a CRM in Ready only once an ERM AA has gone out since the last CMP taken"
+abbrev pub CrmTaken : Type 0
+CrmTaken =
+    (ms : List CallMade) (c : Controller) (b : Bool) (id : ℕ) (s : List ℕ) (a : Answer) → AfterCalls ms c
+    → NextCall c (DidReceive id s a) → Says (c .settings) (c .session .station) (Crm b) id s
+    → isReady (c .session .state) ≡ true → a .number ≡ 0 → hasGone erm ms ≡ true
+
+-- ==== docs/INSURER.md: could the door display, the test laptop or the second station have done the same?
+
+-- "No frame from another address than its station's can reach an open session." Two runs that begin with the same calls
+-- from the start, up to an open session; then the same ticks with all that they lend, the same frames of the session's
+-- station and the same new settings between the same ticks, and all else different at will. What is told of the
+-- session, up to and with its end, is the same: the numbers answered, the charge frames as they stand in the buffers,
+-- the session's record. And it ends at the same place in both, or in neither
+abbrev pub Undisturbed : Type 0
+Undisturbed =
+    (ps : List CallMade) (c : Controller) (ms ns : List CallMade) → AfterCalls ps c → NextCalls c ms → NextCalls c ns
+    → noSession c ≡ false
+    → reaching (c .session .station) (callsIn ms) ≡ reaching (c .session .station) (callsIn ns)
+    → (lifeIn (c .session .station) (stepsMade (Using c) ms) ≡ lifeIn (c .session .station) (stepsMade (Using c) ns))
+    × (placeOfEnd (c .session .station) (stepsMade (Using c) ms)
+    ≡ placeOfEnd (c .session .station) (stepsMade (Using c) ns))
+
+-- "No frame that the session cannot hear ever ends it"; it leaves settings and session's record as they were
+abbrev pub Unreached : Type 0
+Unreached =
+    (ms : List CallMade) (c : Controller) (m : CallMade) → AfterCalls ms c → NextCall c m → noSession c ≡ false
+    → reaches (c .session .station) (callIn m) ≡ false
+    → (useThen c m .settings ≡ c .settings) × (useThen c m .session ≡ c .session)
+
+-- "Nor can charge messages reach what others rely on." Two runs that begin with the same calls from the start and then
+-- differ only in charge messages: the same broadcasts and cell frames, in their order in the buffers, and the same
+-- numbers to queries
+abbrev pub Unmoved : Type 0
+Unmoved =
+    (ps : List CallMade) (c : Controller) (ms ns : List CallMade) → AfterCalls ps c → NextCalls c ms → NextCalls c ns
+    → others (callsIn ms) ≡ others (callsIn ns)
+    → outputsIn (stepsMade (Using c) ms) ≡ outputsIn (stepsMade (Using c) ns)
+
+-- "A silent station cannot hold us": an open session whose station says nothing that it heeds has ended within so many
+-- accepted ticks, whatever others send
+abbrev pub EndsWithin : ℕ → Type 0
+EndsWithin n =
+    (ps : List CallMade) (c : Controller) (ms : List CallMade) → AfterCalls ps c → NextCalls c ms
+    → noSession c ≡ false → SilentIn (stepsMade (Using c) ms) → n ≤ ticksIn (callsIn ms)
+    → endsIn (stepsMade (Using c) ms) ≡ true
+
+-- "within 801 accepted ticks"
+abbrev pub Within801 : Type 0
+Within801 = EndsWithin longest
+
+-- "800 are not enough"
+abbrev pub EightHundredAreNotEnough : Type 0
+EightHundredAreNotEnough = EndsWithin 800 → ⊥
+
+-- a station that sends nothing is silent
+abbrev pub SilentStation : Type 0
+SilentStation =
+    (ps : List CallMade) (c : Controller) (ms : List CallMade) → AfterCalls ps c → NextCalls c ms
+    → sendsNothing (c .session .station) (callsIn ms) ≡ true → SilentIn (stepsMade (Using c) ms)
+
+-- "a restarted station's CIM does not hold a session open in Parameters"
+abbrev pub CimHoldsNothing : Type 0
+CimHoldsNothing =
+    (ps : List CallMade) (c : Controller) (ms : List CallMade) → AfterCalls ps c → NextCalls c ms
+    → c .session .state ≡ Parameters → SaysOnly isCim (c .settings) (c .session .station) (callsIn ms)
+    → longest ≤ ticksIn (callsIn ms) → endsIn (stepsMade (Using c) ms) ≡ true
+
+-- "nor do CIM, CVM, CMP and CRM hold one open in Charging"
+abbrev pub CrmHoldsNothing : Type 0
+CrmHoldsNothing =
+    (ps : List CallMade) (c : Controller) (p : Phase) (ms : List CallMade) → AfterCalls ps c → NextCalls c ms
+    → c .session .state ≡ Charging p → SaysOnly isHandshake (c .settings) (c .session .station) (callsIn ms)
+    → longest ≤ ticksIn (callsIn ms) → endsIn (stepsMade (Using c) ms) ≡ true
+
+-- "Nor can others keep an open session from Charging": a station whose CIM has opened a session and which then follows
+-- the handshake is in Charging after its CRM AA, with the offer of its last CMP
+abbrev pub ReachesCharging : Type 0
+ReachesCharging =
+    (ps : List CallMade) (c : Controller) (st : ℕ) (o : Offer) (ms : List CallMade) → AfterCalls ps c → NextCalls c ms
+    → c .session ≡ opened st → Follows (c .settings) st o UntilCvm 0 0 (reaching st (callsIn ms))
+    → useLast c ms .session ≡ chargingWith (c .settings) st o
+
+-- the same from Idle, with the CIM
+abbrev pub FromCimToCharging : Type 0
+FromCimToCharging =
+    (ps : List CallMade) (c : Controller) (st id : ℕ) (s : List ℕ) (a : Answer) (o : Offer) (ms : List CallMade)
+    → AfterCalls ps c → NextCalls c (DidReceive id s a ∷ ms) → noSession c ≡ true
+    → listed st (c .settings .stations) ≡ true → Says (c .settings) st Cim id s
+    → Follows (c .settings) st o UntilCvm 0 0 (reaching st (callsIn ms))
+    → useLast c (DidReceive id s a ∷ ms) .session ≡ chargingWith (c .settings) st o
+
+-- "from Idle no session is in Charging before eight, whoever sends what"
+abbrev pub NoSooner : Type 0
+NoSooner =
+    (ps : List CallMade) (c : Controller) (ms : List CallMade) → AfterCalls ps c → NextCalls c ms
+    → noSession c ≡ true → isCharging (useLast c ms .session .state) ≡ true → 8 ≤ ticksIn (callsIn ms)
+
+-- ==== docs/PROMISES.md: the demands
+
+-- Demand 1: "a refusal alters no state and writes no byte (one exception, at number 11)", of every entry point, any
+-- controller and any input
+abbrev pub Demand1 : Type 0
+Demand1 = (b : Box) (m : CallMade) → KeepsPromise b m → (numberGiven m ≡ 0 → ⊥) → LeftAsItWas b m
+
+-- Demand 2: "it does what the paper says, every frame sent and every state entered, over any sequence of calls from the
+-- start": what the calls gave is what the paper's machine gives, and the controller in use differs from the machine's
+-- only in how counts are kept
+abbrev pub Demand2 : Type 0
+Demand2 =
+    (ms : List CallMade) → AllKeepPromises NoController ms
+    → (allInHand ms ≡ run paperNext NoController (callsIn ms))
+    × InStep (boxAt paperNext NoController (callsIn ms)) (boxLast NoController ms)
+
+-- none of this is empty: whatever is called once a record was accepted, there are answers that keep the promises
+pub record CanBeMade (bytes : List ℕ) (ks : List Call) : Type 0 where
+  pub calls : List CallMade
+  pub kept : AllKeepPromises NoController calls
+  pub same : callsIn calls ≡ Read bytes ∷ ks
+
+abbrev pub AnyCallsCanBeMade : Type 0
+AnyCallsCanBeMade = (bytes : List ℕ) (x : Settings) (ks : List Call) → readOf bytes ≡ read.Read x → CanBeMade bytes ks
+
+-- "what a session asks for is never above the maximum current of the settings in use"
+abbrev pub NeverAboveTheMaximum : Type 0
+NeverAboveTheMaximum =
+    (ms : List CallMade) (c : Controller) → AfterCalls ms c
+    → requestIn (c .session .state) ≤ c .settings .limits .current .0
+
+-- "the rows marked P, as one table under a single statement"; "each number behind a name is the paper's"
+abbrev pub TheWorkedRows : Type 0
+TheWorkedRows = WorkedRows
+
+abbrev pub ThePapersNumbers : Type 0
+ThePapersNumbers = PaperNumbers
