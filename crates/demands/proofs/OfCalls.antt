@@ -2,6 +2,7 @@
 -- Each is its lemma of one call of any controller, carried over to the calls that were made. Assumes nothing.
 use Prim.Native.Nat.{ℕ, _+_, _≤_}
 use native.Mathlib.Omega.{arith}
+use mathlib.Core.Logic.{_⊎_}
 use mathlib.Core.Path.{_≡_, refl, sym, ap, subst, _∙_}
 use mathlib.Core.Bool.{Bool, true, false, not, cond, _&&_, _||_, false≢true}
 use mathlib.Core.List.{List, [], _∷_, map}
@@ -14,6 +15,9 @@ use Rattle.readings.specs.declared.Readings.{Readings}
 use Rattle.cells.specs.declared.Cells.{Cells}
 use Rattle.cells.specs.Summaries.{cellsOf}
 use Rattle.settings.specs.declared.Settings.{Settings}
+use Rattle.charge_messages.specs.declared.ChargeMessage.{ChargeMessage}
+use Rattle.charge_messages.specs.declared.ChargeMessage.the-variants.{Cvm, Cmp, Crm}
+use Rattle.refusals.specs.Tick.{tickNumber}
 use Rattle.session_states.specs.declared.phases.Phase.{Phase}
 use Rattle.session_states.specs.declared.states.State.{State}
 use Rattle.session_states.specs.declared.states.State.the-variants.{Idle, Offered, Unverified, Parameters, Ready, Charging, Stopping, Error}
@@ -26,19 +30,23 @@ use Rattle.controller.specs.declared.Controller.{Controller}
 use Rattle.controller.specs.declared.Answer.{Answer}
 use Rattle.controller.specs.declared.Ticked.{Ticked}
 use Rattle.controller.specs.Frame.{frameTo}
-use Rattle.demands.specs.Machine.{Call, Receive, Tick, Box, NoController, Using, paperNext, boxAt, framesSeen}
+use Rattle.demands.specs.Machine.{Call, Receive, Tick, Box, NoController, Using, paperNext, boxAt, numberSeen, framesSeen}
 use Rattle.demands.specs.InStep.{codeOf, codeBox}
-use Rattle.demands.specs.Calls.{CallMade, DidRead, DidReceive, DidTick, DidWrite, callIn, KeepsPromise, callsIn}
+use Rattle.demands.specs.Calls.{CallMade, DidRead, DidReceive, DidTick, DidWrite, callIn, KeepsPromise, boxThen, inHand, callsIn}
 use Rattle.demands.specs.Steps.{Step, stepsOf, stepsMade}
 use Rattle.demands.specs.Since.{AfterCalls, useThen}
+use Rattle.demands.specs.Refusals.{leftBy, boxLeftBy, lentBefore, lentAfter}
+use Rattle.demands.specs.Says.{Says}
 use Rattle.demands.specs.After.{accepts, after, noSession}
 use Rattle.demands.specs.Apart.{reaches, Alike}
 use Rattle.demands.specs.Over.{Opens, Ignored}
 use Rattle.demands.specs.GoneOut.{Watch, isHere, holds, sends, isOneOf, takes, goesOn, goneAfter, gone, isOffered, isParameters, isReady, eim, ecp, erm, est}
 use Rattle.demands.specs.Statements.{NextCall, hasGone, WhatEndsASession, EachEndsASession, EstGone, EarlyAcknowledgement, WhatEndsACharge, EachEndsACharge, WhatARefusedTickDoes, WhatATickDoesInIdle, Over, EachOpens, ReplayedAcknowledgement, CvmTaken, CmpTaken, CrmTaken, Unreached}
-use Rattle.demands.proofs.Steps.{idle-folds}
+use Rattle.demands.proofs.Steps.{kind-folds, idle-folds}
 use Rattle.demands.proofs.Demand2.{frame-in-step}
 use Rattle.demands.proofs.StepsMade.{codeStep, Behind, behind, its-own, use-is, steps-from-start}
+use Rattle.demands.proofs.Since.{using-same}
+use Rattle.demands.proofs.Stops as stops
 use Rattle.demands.proofs.Ends as ends
 use Rattle.demands.proofs.Over as idle
 use Rattle.demands.proofs.GoneOut as out
@@ -47,59 +55,24 @@ use Rattle.demands.proofs.Demand1.{demand-1}
 
 -- ---- what the code's controller shows of the machine's
 charging-folds : (st : State) → isCharging (foldState st) ≡ isCharging st
-unfolding isCharging foldState
-charging-folds Idle = refl
-charging-folds Offered = refl
-charging-folds Unverified = refl
-charging-folds Parameters = refl
-charging-folds (Ready accepted maximum) = refl
-charging-folds (Charging p) = refl
-charging-folds (Stopping acknowledged est) = refl
-charging-folds Error = refl
+unfolding isCharging
+charging-folds = kind-folds isCharging (λ p. refl)
 
 stopping-folds : (st : State) → isStopping (foldState st) ≡ isStopping st
-unfolding isStopping foldState
-stopping-folds Idle = refl
-stopping-folds Offered = refl
-stopping-folds Unverified = refl
-stopping-folds Parameters = refl
-stopping-folds (Ready accepted maximum) = refl
-stopping-folds (Charging p) = refl
-stopping-folds (Stopping acknowledged est) = refl
-stopping-folds Error = refl
+unfolding isStopping
+stopping-folds = kind-folds isStopping (λ p. refl)
 
 offered-folds : (st : State) → isOffered (foldState st) ≡ isOffered st
-unfolding isOffered foldState
-offered-folds Idle = refl
-offered-folds Offered = refl
-offered-folds Unverified = refl
-offered-folds Parameters = refl
-offered-folds (Ready accepted maximum) = refl
-offered-folds (Charging p) = refl
-offered-folds (Stopping acknowledged est) = refl
-offered-folds Error = refl
+unfolding isOffered
+offered-folds = kind-folds isOffered (λ p. refl)
 
 parameters-folds : (st : State) → isParameters (foldState st) ≡ isParameters st
-unfolding isParameters foldState
-parameters-folds Idle = refl
-parameters-folds Offered = refl
-parameters-folds Unverified = refl
-parameters-folds Parameters = refl
-parameters-folds (Ready accepted maximum) = refl
-parameters-folds (Charging p) = refl
-parameters-folds (Stopping acknowledged est) = refl
-parameters-folds Error = refl
+unfolding isParameters
+parameters-folds = kind-folds isParameters (λ p. refl)
 
 ready-folds : (st : State) → isReady (foldState st) ≡ isReady st
-unfolding isReady foldState
-ready-folds Idle = refl
-ready-folds Offered = refl
-ready-folds Unverified = refl
-ready-folds Parameters = refl
-ready-folds (Ready accepted maximum) = refl
-ready-folds (Charging p) = refl
-ready-folds (Stopping acknowledged est) = refl
-ready-folds Error = refl
+unfolding isReady
+ready-folds = kind-folds isReady (λ p. refl)
 
 pub no-session-code : (c : Controller) → noSession (codeOf c) ≡ noSession c
 unfolding noSession codeOf folds
@@ -200,3 +173,118 @@ what-ends-a-charge ms c m a h o e = ends.what-ends-a-charge c (callIn m) o (sym 
 
 pub each-ends-a-charge : EachEndsACharge
 each-ends-a-charge ms c m a h o e = charging-use ms c m a h ∙ ends.each-ends-a-charge c (callIn m) o e
+
+-- ---- what a tick does
+accepted-as : (c : Controller) (r : Readings) (v : List ℕ) (t : List ℤ) (old new : List ℕ) (k : Ticked) → NextCall c (DidTick r v t old new k)
+    → k .number ≡ 0 → accepts r v t old ≡ true
+unfolding KeepsPromise accepts
+accepted-as c r v t old new k h z = eq-eqb (tickNumber r v t (length old)) 0 (sym (h .number) ∙ z)
+
+pub what-a-refused-tick-does : WhatARefusedTickDoes
+unfolding boxThen boxLeftBy leftBy callIn lentBefore lentAfter inHand numberSeen
+what-a-refused-tick-does ms c r v t old new k a h n =
+    let l = demand-1 (Using c) (DidTick r v t old new k) h n in (using-same (k .controller) c (l .controller), l .buffer)
+
+idle-state : (st : State) → isIdle st ≡ true → st ≡ Idle
+unfolding isIdle
+idle-state Idle h = refl
+idle-state Offered h = absurd (false≢true h)
+idle-state Unverified h = absurd (false≢true h)
+idle-state Parameters h = absurd (false≢true h)
+idle-state (Ready accepted maximum) h = absurd (false≢true h)
+idle-state (Charging p) h = absurd (false≢true h)
+idle-state (Stopping acknowledged est) h = absurd (false≢true h)
+idle-state Error h = absurd (false≢true h)
+
+pub in-idle : (c : Controller) → noSession c ≡ true → c .session .state ≡ Idle
+unfolding noSession
+in-idle c h = idle-state (c .session .state) h
+
+-- the session that the next call leaves
+session-use : (ms : List CallMade) (c : Controller) (m : CallMade) → AfterCalls ms c → NextCall c m → useThen c m .session ≡ folds (after c (callIn m) .session)
+unfolding codeOf
+session-use ms c m a h = ap (λ (z : Controller). z .session) (use-is c (its-own ms c a) m h)
+
+own-session : (ms : List CallMade) (c : Controller) → AfterCalls ms c → folds (c .session) ≡ c .session
+unfolding codeOf
+own-session ms c a = ap (λ (z : Controller). z .session) (its-own ms c a)
+
+pub what-a-tick-does-in-idle : WhatATickDoesInIdle
+unfolding useThen callIn
+what-a-tick-does-in-idle ms c r v t old new k a h o =
+    session-use ms c (DidTick r v t old new k) a h
+    ∙ (ap folds (stops.what-a-tick-does-in-idle c r v t old (in-idle c o)) ∙ own-session ms c a)
+
+-- ---- once its session is over
+pub over : Over
+unfolding KeepsPromise
+over ms c id s a u h o = subst (λ (z : Answer). Opens c id s z ⊎ Ignored c id s z) (sym h) (idle.over c id s (in-idle c o))
+
+pub each-opens : EachOpens
+unfolding KeepsPromise
+each-opens ms c id s a u h o says l = subst (Opens c id s) (sym h) (idle.each-opens c id s (in-idle c o) says l)
+
+pub replayed-acknowledgement : ReplayedAcknowledgement
+unfolding KeepsPromise
+replayed-acknowledgement ms c source id s a u h o says =
+    let e = h ∙ idle.replayed-acknowledgement c id s (in-idle c o) source says in
+    (ap (λ (z : Answer). z .number) e, ap (λ (z : Answer). z .controller) e)
+
+-- ---- what has gone out before a message is taken: of the machine's controller behind, which answers the same
+eim-same : (st : State) → eim .here (foldState st) ≡ eim .here st
+unfolding eim
+eim-same st = offered-folds st
+
+ecp-same : (st : State) → ecp .here (foldState st) ≡ ecp .here st
+unfolding ecp
+ecp-same st = parameters-folds st
+
+erm-same : (st : State) → erm .here (foldState st) ≡ erm .here st
+unfolding erm
+erm-same st = ready-folds st
+
+module _ (ms : List CallMade) (c : Controller) (u : AfterCalls ms c) (id : ℕ) (s : List ℕ) (a : Answer) (h : NextCall c (DidReceive id s a)) where
+  abbrev paper : Controller
+  paper = behind ms c u .paper
+
+  number-behind : a .number ≡ 0 → frameTo paper id s .number ≡ 0
+  unfolding KeepsPromise
+  number-behind z =
+      frame-in-step paper id s .0
+      ∙ (ap (λ (d : Controller). frameTo d id s .number) (behind ms c u .code) ∙ (ap (λ (d : Answer). d .number) (sym h) ∙ z))
+
+  says-behind : (m : ChargeMessage) → Says (c .settings) (c .session .station) m id s → Says (paper .settings) (paper .session .station) m id s
+  unfolding codeOf folds
+  says-behind m k = subst (λ (d : Controller). Says (d .settings) (d .session .station) m id s) (sym (behind ms c u .code)) k
+
+  here-behind : (f : State → Bool) → ((st : State) → f (foldState st) ≡ f st) → f (c .session .state) ≡ true → f (paper .session .state) ≡ true
+  unfolding codeOf folds
+  here-behind f k e = sym (k (paper .session .state)) ∙ (ap (λ (d : Controller). f (d .session .state)) (behind ms c u .code) ∙ e)
+
+pub cvm-taken : CvmTaken
+cvm-taken ms c b id s a u h says st z =
+    gone-made eim eim-same ms c u
+    ∙ out.cvm-taken (callsIn ms) (behind ms c u .paper) (behind ms c u .run) id s b (here-behind ms c u id s a h isOffered offered-folds st)
+    (says-behind ms c u id s a h (Cvm b) says) (number-behind ms c u id s a h z)
+
+pub cmp-taken : CmpTaken
+cmp-taken ms c o id s a u h says st z =
+    gone-made ecp ecp-same ms c u
+    ∙ out.cmp-taken (callsIn ms) (behind ms c u .paper) (behind ms c u .run) id s o (here-behind ms c u id s a h isParameters parameters-folds st)
+    (says-behind ms c u id s a h (Cmp o) says) (number-behind ms c u id s a h z)
+
+pub crm-taken : CrmTaken
+crm-taken ms c b id s a u h says st z =
+    gone-made erm erm-same ms c u
+    ∙ out.crm-taken (callsIn ms) (behind ms c u .paper) (behind ms c u .run) id s b (here-behind ms c u id s a h isReady ready-folds st)
+    (says-behind ms c u id s a h (Crm b) says) (number-behind ms c u id s a h z)
+
+-- ---- what cannot reach a session
+settings-use : (ms : List CallMade) (c : Controller) (m : CallMade) → AfterCalls ms c → NextCall c m → useThen c m .settings ≡ after c (callIn m) .settings
+unfolding codeOf
+settings-use ms c m a h = ap (λ (z : Controller). z .settings) (use-is c (its-own ms c a) m h)
+
+pub unreached-by : Unreached
+unreached-by ms c m a h o r =
+    let u : Alike (after c (callIn m)) c = unreached c (callIn m) o r in
+    (settings-use ms c m a h ∙ u .settings, session-use ms c m a h ∙ (ap folds (u .session) ∙ own-session ms c a))

@@ -22,7 +22,8 @@ use Rattle.session_states.specs.declared.states.State.the-variants.{Idle, Offer
 use Rattle.session.specs.declared.Session.{Session}
 use Rattle.broadcasts.proofs.InStep.{next-kept, broadcasts-kept}
 use Rattle.broadcasts.specs.Sendings.{broadcastAt}
-use Rattle.session_paper_counts.specs.Folds.{folds, foldState}
+use Rattle.session_states.specs.declared.phases.Phase.{Phase}
+use Rattle.session_paper_counts.specs.Folds.{folds, foldPhase, foldState}
 use Rattle.session_paper_counts.proofs.InStep.{tick-in-step, frames-in-step}
 use Rattle.session_paper_counts.proofs.Outcomes.{foldTaken, message-folds}
 use Rattle.controller.specs.declared.Controller.{Controller}
@@ -39,17 +40,21 @@ use Rattle.demands.proofs.View.{contentOn, chargeOn, View, Refused, Ask
 abbrev pub codeAnswer : Answer → Answer
 codeAnswer a = record { number = a .number; controller = codeOf (a .controller) }
 
--- a session is open exactly when its fold is
+-- what asks of a state nothing but its kind, or of a phase nothing but what is no count, is told alike of its fold
+pub kind-folds : {A : Type 0} (f : State → A) → ((p : Phase) → f (Charging (foldPhase p)) ≡ f (Charging p)) → (st : State) → f (foldState st) ≡ f st
+unfolding foldState
+kind-folds f h Idle = refl
+kind-folds f h Offered = refl
+kind-folds f h Unverified = refl
+kind-folds f h Parameters = refl
+kind-folds f h (Ready accepted maximum) = refl
+kind-folds f h (Charging p) = h p
+kind-folds f h (Stopping acknowledged est) = refl
+kind-folds f h Error = refl
+
 pub idle-folds : (st : State) → isIdle (foldState st) ≡ isIdle st
-unfolding isIdle foldState
-idle-folds Idle = refl
-idle-folds Offered = refl
-idle-folds Unverified = refl
-idle-folds Parameters = refl
-idle-folds (Ready accepted maximum) = refl
-idle-folds (Charging p) = refl
-idle-folds (Stopping acknowledged est) = refl
-idle-folds Error = refl
+unfolding isIdle
+idle-folds = kind-folds isIdle (λ p. refl)
 
 -- a charge message does the same to the folded session
 module _ (x : Settings) (source : ℕ) (t : Session) where
