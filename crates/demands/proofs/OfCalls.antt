@@ -175,7 +175,7 @@ pub each-ends-a-charge : EachEndsACharge
 each-ends-a-charge ms c m a h o e = charging-use ms c m a h ∙ ends.each-ends-a-charge c (callIn m) o e
 
 -- ---- what a tick does
-accepted-as : (c : Controller) (r : Readings) (v : List ℕ) (t : List ℤ) (old new : List ℕ) (k : Ticked) → NextCall c (DidTick r v t old new k)
+pub accepted-as : (c : Controller) (r : Readings) (v : List ℕ) (t : List ℤ) (old new : List ℕ) (k : Ticked) → NextCall c (DidTick r v t old new k)
     → k .number ≡ 0 → accepts r v t old ≡ true
 unfolding KeepsPromise accepts
 accepted-as c r v t old new k h z = eq-eqb (tickNumber r v t (length old)) 0 (sym (h .number) ∙ z)
@@ -201,11 +201,11 @@ unfolding noSession
 in-idle c h = idle-state (c .session .state) h
 
 -- the session that the next call leaves
-session-use : (ms : List CallMade) (c : Controller) (m : CallMade) → AfterCalls ms c → NextCall c m → useThen c m .session ≡ folds (after c (callIn m) .session)
+pub session-use : (ms : List CallMade) (c : Controller) (m : CallMade) → AfterCalls ms c → NextCall c m → useThen c m .session ≡ folds (after c (callIn m) .session)
 unfolding codeOf
 session-use ms c m a h = ap (λ (z : Controller). z .session) (use-is c (its-own ms c a) m h)
 
-own-session : (ms : List CallMade) (c : Controller) → AfterCalls ms c → folds (c .session) ≡ c .session
+pub own-session : (ms : List CallMade) (c : Controller) → AfterCalls ms c → folds (c .session) ≡ c .session
 unfolding codeOf
 own-session ms c a = ap (λ (z : Controller). z .session) (its-own ms c a)
 
