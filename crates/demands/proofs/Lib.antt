@@ -23,6 +23,7 @@ pub mod Together
 pub mod Unmoved
 pub mod Told
 pub mod OfCalls
+pub mod Promised
 pub mod TickOfCalls
 pub mod Since
 pub mod StepsMade
