@@ -32,6 +32,7 @@ pub mod ReachStretches
 pub mod Reach
 pub mod ReachLeast
 pub mod ReachRun
+pub mod OfRuns
 pub mod SilentFrames
 pub mod SilentSlips
 pub mod SilentRun

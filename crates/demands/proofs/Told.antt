@@ -193,7 +193,7 @@ place-told st (x ∷ xs) =
     either false true = refl
     either false false = refl
 
-ends-told : (ks : List Call) (c : Controller) → noSession c ≡ false → endsIn (stepsOf (Using c) ks) ≡ endsWithin c ks
+pub ends-told : (ks : List Call) (c : Controller) → noSession c ≡ false → endsIn (stepsOf (Using c) ks) ≡ endsWithin c ks
 unfolding endsIn stepsOf endsWithin
 ends-told [] c o = sym o
 ends-told (k ∷ ks) c o = rw (over-then c k, after-is c k, o) (either (noSession (after c k)) refl (ends-told ks (after c k)))
