@@ -39,3 +39,4 @@ pub mod SilentRun
 pub mod GoneOutMoves
 pub mod GoneOutLaw
 pub mod GoneOut
+pub mod RunsMade

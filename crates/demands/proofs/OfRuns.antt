@@ -80,7 +80,7 @@ use-code p c e m h =
     ∙ (then-code (Using p) m (subst (λ (z : Box). KeepsPromise z m) (sym (code-box p c e)) h)
     ∙ ap codeBox (after-is p (callIn m)))))
 
-use-all : (ms : List CallMade) (p c : Controller) → codeOf p ≡ c → AllKeepPromises (Using c) ms → useLast c ms ≡ codeOf (afterAll p (callsIn ms))
+pub use-all : (ms : List CallMade) (p c : Controller) → codeOf p ≡ c → AllKeepPromises (Using c) ms → useLast c ms ≡ codeOf (afterAll p (callsIn ms))
 unfolding AllKeepPromises useLast callsIn afterAll
 use-all [] p c e h = sym e
 use-all (m ∷ ms) p c e h =
@@ -92,7 +92,7 @@ unfolding endsIn
 ends-fold [] = refl
 ends-fold (x ∷ xs) = rw (over-folds (x .after), ends-fold xs)
 
-ends-made : (ps : List CallMade) (c : Controller) (ms : List CallMade) → AfterCalls ps c → NextCalls c ms → noSession c ≡ false
+pub ends-made : (ps : List CallMade) (c : Controller) (ms : List CallMade) → AfterCalls ps c → NextCalls c ms → noSession c ≡ false
     → endsIn (stepsMade (Using c) ms) ≡ endsWithin c (callsIn ms)
 ends-made ps c ms a h o =
     ap endsIn (steps-from-use c (its-own ps c a) ms h) ∙ (ends-fold (stepsOf (Using c) (callsIn ms)) ∙ ends-told (callsIn ms) c o)
@@ -132,7 +132,7 @@ silence-from (k ∷ ks) c h = λ o.
     let g = h (no-session-code c ∙ o) in
     (unheeded-from c k (g .0), silence-from ks (after c k) (subst (λ (z : Box). SilentIn (map codeStep (stepsOf z ks))) (after-is c k) (g .1)))
 
-silence-to : (ks : List Call) (c : Controller) → Silence c ks → SilentIn (map codeStep (stepsOf (Using c) ks))
+pub silence-to : (ks : List Call) (c : Controller) → Silence c ks → SilentIn (map codeStep (stepsOf (Using c) ks))
 unfolding SilentIn stepsOf Silence UnheededIn codeBox isOver
 silence-to [] c h = tt
 silence-to (k ∷ ks) c h = λ o.
@@ -175,7 +175,7 @@ charging-fold : (x : Settings) (st : ℕ) (o : Offer) → folds (chargingWith x 
 unfolding folds foldState foldCount fold
 charging-fold x st o = rw (start-fold (x .limits .current) (stationMaximum o))
 
-last-session : (ps : List CallMade) (c : Controller) (ms : List CallMade) → AfterCalls ps c → NextCalls c ms → useLast c ms .session ≡ folds (afterAll c (callsIn ms) .session)
+pub last-session : (ps : List CallMade) (c : Controller) (ms : List CallMade) → AfterCalls ps c → NextCalls c ms → useLast c ms .session ≡ folds (afterAll c (callsIn ms) .session)
 unfolding codeOf
 last-session ps c ms a h = ap (λ (z : Controller). z .session) (use-all ms c c (its-own ps c a) h)
 

@@ -57,14 +57,14 @@ module _ (c : Controller) where
   promised (Tick r v t old) = DidTick r v t old (later r v t old) (ticked r v t old)
   promised (Write old) = DidWrite old (bufferAfter (c .settings) old) (writtenOf (c .settings) old)
 
-  promise-kept : (k : Call) → KeepsPromise (Using c) (promised k)
+  pub promise-kept : (k : Call) → KeepsPromise (Using c) (promised k)
   unfolding promised KeepsPromise later ticked
   promise-kept (Read s) = (start-number s, refl)
   promise-kept (Receive id s) = refl
   promise-kept (Tick r v t old) = record { number = refl; bytes = refl; next = refl; later = refl }
   promise-kept (Write old) = record { answer = refl; later = refl }
 
-  promised-is : (k : Call) → callIn (promised k) ≡ k
+  pub promised-is : (k : Call) → callIn (promised k) ≡ k
   unfolding promised callIn
   promised-is (Read s) = refl
   promised-is (Receive id s) = refl
@@ -96,18 +96,18 @@ module _ (bytes : List ℕ) (x : Settings) (e : readOf bytes ≡ read.Read x) wh
   unfolding startOf
   start-is = ap startWith e
 
-  pub read-first : CallMade
+  unfoldable pub read-first : CallMade
   read-first = DidRead bytes (startOf bytes)
 
   in-use : (b : Box) → started (startOf bytes) b ≡ Using (freshOf x)
   unfolding started startWith
   in-use b = rw start-is
 
-  read-kept : KeepsPromise NoController read-first
+  pub read-kept : KeepsPromise NoController read-first
   unfolding KeepsPromise read-first
   read-kept = (start-number bytes, refl)
 
-  first-box : boxThen NoController read-first ≡ Using (freshOf x)
+  pub first-box : boxThen NoController read-first ≡ Using (freshOf x)
   unfolding boxThen read-first
   first-box = in-use NoController
 

@@ -45,12 +45,12 @@ ours =
       versions = record { first = 0; second = 0; third = 0; fourth = 0; fifth = 0 };
     }
 
-settings-good : inRange ours ≡ true
+pub settings-good : inRange ours ≡ true
 unfolding inRange limitsInRange within goodStations
 settings-good = refl
 
 -- a CMP of 0 V to 100.0 V and 0 A to 200.0 A, and one of 0 V to 50.0 V, which the yes rule does not accept
-abbrev offer : Offer
+abbrev pub offer : Offer
 offer = record { highest = record { 0 = 1000 }; lowest = record { 0 = 0 }; most = record { 0 = 2000 }; least = record { 0 = 4000 } }
 
 abbrev lowOffer : Offer
@@ -104,7 +104,7 @@ pub says-cim : Says ours 0x56 Cim 0x1826_f456 cimData
 says-cim = all-say .cim
 
 -- ---- the calls
-abbrev cim : Call
+abbrev pub cim : Call
 cim = Receive 0x1826_f456 cimData
 
 abbrev cvm-aa : Call

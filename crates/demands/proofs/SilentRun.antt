@@ -20,20 +20,20 @@ use Rattle.demands.proofs.ReachRun.{ours, is-listed, cimData, says-cim}
 abbrev pub afterCim : Controller
 afterCim = after (freshOf ours) (Receive 0x1826_f456 cimData)
 
-just-opened : afterCim .session ≡ session.opened 0x56
+pub just-opened : afterCim .session ≡ session.opened 0x56
 unfolding freshOf
 just-opened = cim-opens (freshOf ours) 0x56 0x1826_f456 cimData refl is-listed says-cim
 
 -- ---- 800 ticks
-abbrev tick : Call
+abbrev pub tick : Call
 tick = Tick quietReadings (330 ∷ []) (pos 20 ∷ []) (zeros 117)
 
-ticks-silent : (n : ℕ) (c : Controller) → Silence c (repeated n tick)
+pub ticks-silent : (n : ℕ) (c : Controller) → Silence c (repeated n tick)
 unfolding Silence Unheeded repeated
 ticks-silent zero c = tt
 ticks-silent (suc n) c = λ o. (tt, ticks-silent n (after c tick))
 
-ticks-many : (n : ℕ) → ticksIn (repeated n tick) ≡ n
+pub ticks-many : (n : ℕ) → ticksIn (repeated n tick) ≡ n
 unfolding ticksIn repeated isAcceptedTick
 ticks-many zero = refl
 ticks-many (suc n) = rw (such-a-tick .0, ticks-many n) (omega arith)

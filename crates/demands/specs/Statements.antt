@@ -261,6 +261,18 @@ NoSooner =
     (ps : List CallMade) (c : Controller) (ms : List CallMade) → AfterCalls ps c → NextCalls c ms
     → noSession c ≡ true → isCharging (useLast c ms .session .state) ≡ true → 8 ≤ ticksIn (callsIn ms)
 
+-- "Eight accepted ticks can be enough": there are calls from the start with eight accepted ticks among them after which
+-- a session is in Charging
+pub record ChargesAfter (n : ℕ) : Type 0 where
+  pub calls : List CallMade
+  pub controller : Controller
+  pub made : AfterCalls calls controller
+  pub charging : isCharging (controller .session .state) ≡ true
+  pub ticks : ticksIn (callsIn calls) ≡ n
+
+abbrev pub EightAreEnough : Type 0
+EightAreEnough = ChargesAfter 8
+
 -- ==== docs/PROMISES.md: the demands
 
 -- Demand 1: "a refusal alters no state and writes no byte (one exception, at number 11)", of every entry point, any
