@@ -63,8 +63,11 @@ allowedContent charge.Ccs s = eqb (getD s 4 0) 0x01 || eqb (getD s 4 0) 0x00
 allowedContent charge.Cst s = eqb (getD s 2 0) 0xaa || eqb (getD s 2 0) 0x00
 allowedContent charge.Cem s = eqb (getD s 2 0) 0xaa || eqb (getD s 2 0) 0x00
 
--- the paper's number for each case of the answer: 0 where the content is allowed, else 10 (`content-number`,
--- proofs/Numbers.antt)
+-- 10: "content not allowed"; 0 where it is
+unfoldable pub refusalOf : Charge → List ℕ → ℕ
+refusalOf m s = cond (allowedContent m s) 0 10
+
+-- the paper's number for each case of the answer
 abbrev pub contentNumber : Content → ℕ
 contentNumber (Allowed m) = 0
 contentNumber (Refused n) = n

@@ -4,6 +4,7 @@
 ghost use mathlib.Core.Path.{_≡_};
 ghost use lib.ListN.{getD};
 ghost use Rattle.charge_messages.specs.Content.{cimOf, cvmOf, cmpOf, crmOf, ccsOf, cstOf, cemOf, contentOf};
+ghost use Rattle.charge_messages.specs.Content.{contentNumber, refusalOf};
 use messages::received::Charge;
 use units::RawAmps;
 use units::TenthVolts;
@@ -107,7 +108,8 @@ fn cem(c: u8) -> Content
 
 // The message that the data bytes are; a byte past the end counts as 0.
 pub fn read_content(m: Charge, bytes: &[u8]) -> Content
-    ensures { λ r. ⌜ r ≡ contentOf m (now (bytes .entry)) ⌝ }
+    ensures number { λ r. ⌜ contentNumber r ≡ refusalOf m (now (bytes .entry)) ⌝ }
+    ensures answer { λ r. ⌜ r ≡ contentOf m (now (bytes .entry)) ⌝ }
 {
     match m {
         Charge::Cim => {

@@ -2,6 +2,7 @@
 use mathlib.Core.Path.{ap, _∙_}
 use Rattle.charge_messages.specs.Content.{cvmOf, crmOf, ccsOf, cstOf, cemOf, contentOf}
 use borrow.Author.Needs.{needs}
+use Rattle.charge_messages.proofs.Numbers.{answered}
 use Rattle.charge_messages.proofs.read_content.Statement.{statement}
 use Rattle.charge_messages.proofs.read_content.Tie as tie
 
@@ -73,32 +74,32 @@ cem-requires c κs = search needs
 
 returns : tie.Need-returns
 unfolding contentOf
-returns c =
-    rw (c .before .before .before .before .enum-told .given .1, ← c .before .before .before .byte-at .ensures, ← c .before .before .byte-at2 .ensures, ← c .before .byte-at3 .ensures) (c .cim .ensures)
+returns c = answered _ _ _
+    (rw (c .before .before .before .before .enum-told .given .1, ← c .before .before .before .byte-at .ensures, ← c .before .before .byte-at2 .ensures, ← c .before .byte-at3 .ensures) (c .cim .ensures))
 
 returns-2 : tie.Need-returns-2
 unfolding contentOf
-returns-2 c = rw (c .before .before .enum-told2 .given .1) (c .cvm .ensures ∙ ap cvmOf (c .before .byte-at4 .ensures))
+returns-2 c = answered _ _ _ (rw (c .before .before .enum-told2 .given .1) (c .cvm .ensures ∙ ap cvmOf (c .before .byte-at4 .ensures)))
 
 returns-3 : tie.Need-returns-3
 unfolding contentOf
-returns-3 c = rw (c .before .enum-told3 .given .1) (c .cmp .ensures)
+returns-3 c = answered _ _ _ (rw (c .before .enum-told3 .given .1) (c .cmp .ensures))
 
 returns-4 : tie.Need-returns-4
 unfolding contentOf
-returns-4 c = rw (c .before .before .enum-told4 .given .1) (c .crm .ensures ∙ ap crmOf (c .before .byte-at5 .ensures))
+returns-4 c = answered _ _ _ (rw (c .before .before .enum-told4 .given .1) (c .crm .ensures ∙ ap crmOf (c .before .byte-at5 .ensures)))
 
 returns-5 : tie.Need-returns-5
 unfolding contentOf
-returns-5 c = rw (c .before .before .enum-told5 .given .1) (c .ccs .ensures ∙ ap ccsOf (c .before .byte-at6 .ensures))
+returns-5 c = answered _ _ _ (rw (c .before .before .enum-told5 .given .1) (c .ccs .ensures ∙ ap ccsOf (c .before .byte-at6 .ensures)))
 
 returns-6 : tie.Need-returns-6
 unfolding contentOf
-returns-6 c = rw (c .before .before .enum-told6 .given .1) (c .cst .ensures ∙ ap cstOf (c .before .byte-at7 .ensures))
+returns-6 c = answered _ _ _ (rw (c .before .before .enum-told6 .given .1) (c .cst .ensures ∙ ap cstOf (c .before .byte-at7 .ensures)))
 
 returns-7 : tie.Need-returns-7
 unfolding contentOf
-returns-7 c = rw (c .before .before .enum-told7 .given .1) (c .cem .ensures ∙ ap cemOf (c .before .byte-at8 .ensures))
+returns-7 c = answered _ _ _ (rw (c .before .before .enum-told7 .given .1) (c .cem .ensures ∙ ap cemOf (c .before .byte-at8 .ensures)))
 
 pub read-content-spec : {M : Type 1} → statement M
 read-content-spec =
