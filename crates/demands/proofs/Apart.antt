@@ -30,28 +30,15 @@ use Rattle.controller.specs.declared.Controller.{Controller}
 use Rattle.controller.specs.declared.Answer.{Answer}
 use Rattle.session_states.specs.States.{isIdle}
 use Rattle.controller.specs.Frame.{frameTo}
-use Rattle.controller.specs.Tick.{accepted, chargeFrames}
-use Rattle.controller.specs.Start.{freshOf, startWith, startOf}
+use Rattle.controller.specs.Tick.{chargeFrames}
+use Rattle.controller.specs.Start.{freshOf}
 use Rattle.demands.specs.Says.{chargeOf, Says}
-use Rattle.demands.specs.Machine.{Call, Receive, Tick, Write, Read, started, Using, paperNext, boxAfter}
+use Rattle.demands.specs.Machine.{Call, Receive, Tick, Write, Read, paperNext}
 use Rattle.demands.specs.After.{accepts, readInto, isRead, after, noSession, queryIn, isQuery}
 use Rattle.demands.specs.Apart.{fromStation, reaches, reaching, Moment, AfterFrame, sentAt, moments, life, Alike}
 use Rattle.controller.specs.Frame.{sessionMoved, queriesMoved}
 use Rattle.demands.proofs.View.{pf-is, View, Refused, Asks, Charges, view}
 use Rattle.demands.proofs.Comes.{Comes, Left, Took, came, kept-settings, station-is}
-
-read-into : (a : SettingsRead) (c : Controller) → started (startWith a) (Using c) ≡ Using (readInto a c)
-unfolding started startWith readInto
-read-into (read.Read x) c = refl
-read-into (read.Refused n) c = refl
-
--- the controller after an call is the machine's
-pub after-is : (c : Controller) (e : Call) → boxAfter paperNext (Using c) e ≡ Using (after c e)
-unfolding boxAfter after accepted accepts startOf
-after-is c (Receive id s) = refl
-after-is c (Tick r v t old) = refl
-after-is c (Write old) = refl
-after-is c (Read s) = read-into (readOf s) c
 
 -- ---- a frame that cannot reach the session leaves it as it was
 -- by what it says a source is the frame's source, and the frame is no query

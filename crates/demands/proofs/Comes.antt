@@ -34,7 +34,7 @@ use Rattle.controller.specs.Frame.{sessionMoved, queriesMoved}
 use Rattle.demands.proofs.View.{contentOn, chargeOn, View, Refused, Asks, Charges, each-charge, view}
 
 -- allowed content is of the message that the PF says, and other content is refused by 10
-unfoldable ContentOf : Charge → Content → Type 0
+unfoldable pub ContentOf : Charge → Content → Type 0
 ContentOf k (content.Allowed m) = chargeOf m ≡ k
 ContentOf k (content.Refused n) = n ≡ 10
 
@@ -54,7 +54,7 @@ content-of charge.Ccs s = either charge.Ccs (eqb (getD s 4 0) 0x01) _ _ refl (ei
 content-of charge.Cst s = either charge.Cst (eqb (getD s 2 0) 0xaa) _ _ refl (either charge.Cst (eqb (getD s 2 0) 0x00) _ _ refl refl)
 content-of charge.Cem s = either charge.Cem (eqb (getD s 2 0) 0xaa) _ _ refl (either charge.Cem (eqb (getD s 2 0) 0x00) _ _ refl refl)
 
-content-is : (k : Charge) (s : List ℕ) (m : Content) → contentOf k s ≡ m → ContentOf k m
+pub content-is : (k : Charge) (s : List ℕ) (m : Content) → contentOf k s ≡ m → ContentOf k m
 content-is k s m e = subst (ContentOf k) e (content-of k s)
 
 -- a frame is not both

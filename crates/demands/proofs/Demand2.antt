@@ -103,7 +103,7 @@ ticked true c d h k = ap Using h
 ticked false c d h k = ap Using k
 
 -- one call, from every box
-after-in-step : (b : Box) (k : Call) → codeBox (boxAfter paperNext b k) ≡ boxAfter tickNext (codeBox b) k
+pub after-in-step : (b : Box) (k : Call) → codeBox (boxAfter paperNext b k) ≡ boxAfter tickNext (codeBox b) k
 unfolding boxAfter codeBox startOf accepted
 after-in-step NoController (Read s) = with-in-step (readOf s) NoController
 after-in-step (Using c) (Read s) = with-in-step (readOf s) (Using c)
@@ -118,7 +118,7 @@ write-in-step : (c : Controller) (old : List ℕ) → seenOf paperNext (Using c)
 unfolding seenOf codeOf
 write-in-step c old = refl
 
-seen-in-step : (b : Box) (k : Call) → seenOf paperNext b k ≡ seenOf tickNext (codeBox b) k
+pub seen-in-step : (b : Box) (k : Call) → seenOf paperNext b k ≡ seenOf tickNext (codeBox b) k
 unfolding seenOf codeBox accepted
 seen-in-step NoController (Read s) = refl
 seen-in-step (Using c) (Read s) = refl

@@ -1,11 +1,15 @@
 pub mod Tests
 pub mod Steps
+pub mod Sent
+pub mod FrameKinds
 pub mod Demand2
 pub mod Calls
 pub mod WorkedRows
 pub mod PaperNumbers
 pub mod View
 pub mod Comes
+pub mod Demand1
+pub mod Addresses
 pub mod Outcomes
 pub mod Messages
 pub mod Gone
@@ -18,7 +22,9 @@ pub mod Apart
 pub mod Silent
 pub mod Together
 pub mod Unmoved
+pub mod Told
 pub mod Since
+pub mod StepsMade
 pub mod ReachFrames
 pub mod ReachStretches
 pub mod Reach

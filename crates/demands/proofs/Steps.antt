@@ -40,7 +40,7 @@ abbrev pub codeAnswer : Answer → Answer
 codeAnswer a = record { number = a .number; controller = codeOf (a .controller) }
 
 -- a session is open exactly when its fold is
-idle-folds : (st : State) → isIdle (foldState st) ≡ isIdle st
+pub idle-folds : (st : State) → isIdle (foldState st) ≡ isIdle st
 unfolding isIdle foldState
 idle-folds Idle = refl
 idle-folds Offered = refl

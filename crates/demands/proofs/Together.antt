@@ -14,7 +14,7 @@ use Rattle.demands.specs.Apart.{reaches, reaching, Alike}
 use Rattle.demands.proofs.Apart.{unreached, kept-open, alike-call, same-noSession, then, back}
 
 -- a list that begins without a session
-at-once : (c : Controller) (es : List Call) → noSession c ≡ true → endsWithin c es ≡ true
+pub at-once : (c : Controller) (es : List Call) → noSession c ≡ true → endsWithin c es ≡ true
 unfolding endsWithin
 at-once c [] h = h
 at-once c (e ∷ es) h = rw h

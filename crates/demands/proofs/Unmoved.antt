@@ -18,7 +18,7 @@ use Rattle.controller.specs.Tick.{broadcastFrames, cellFrames}
 use Rattle.controller.specs.With.{withSession}
 use Rattle.demands.specs.Machine.{Call, Receive, Tick, Write, Read, paperNext}
 use Rattle.demands.specs.After.{accepts, readInto, after, isCharge}
-use Rattle.demands.specs.Unmoved.{isChargeMessage, others, Output, broadcastsAt, cellsAt, outputAt, outputs, Beside}
+use Rattle.demands.specs.Unmoved.{isChargeMessage, others, Output, besideAt, outputAt, outputs, Beside}
 use Rattle.controller.specs.Frame.{sessionMoved, queriesMoved}
 use Rattle.demands.proofs.View.{View, Refused, Asks, Charges, view}
 use Rattle.demands.proofs.Comes.{Comes, Left, Took, came}
@@ -81,7 +81,7 @@ module _ (c d : Controller) (a : Beside c d) where
   same-cells r v t = ap (λ (z : Controller). cellFrames z r v t) a
 
   same-output : (e : Call) → isChargeMessage e ≡ false → outputAt c e ≡ outputAt d e
-  unfolding outputAt broadcastsAt cellsAt isChargeMessage
+  unfolding outputAt besideAt isChargeMessage
   same-output (Receive id s) h = rw (h, same-frame id s h .number)
   same-output (Tick r v t old) h = rw (same-broadcasts r v t, same-cells r v t)
   same-output (Write old) h = refl

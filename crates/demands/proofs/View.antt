@@ -2,12 +2,12 @@
 -- refuses it, or it is a query, or it is a charge message. The checks ask nothing of a controller but its own address,
 -- so controllers with the same address are in the same case, and each case tells what each of them answers. No other
 -- file looks into the checks, but to run them on given frames (proofs/ReachRun.antt). Assumes nothing.
-use Prim.Native.Nat.{ℕ}
+use Prim.Native.Nat.{ℕ, _<_}
 use mathlib.Core.Path.{_≡_, refl, ap, subst, _∙_}
 use mathlib.Core.Bool.{Bool, true, false, cond, false≢true}
-use mathlib.Core.List.{List}
+use mathlib.Core.List.{List, [], _∷_}
 use native.Mathlib.Omega.{arith}
-use lib.Dec.{ltb}
+use lib.Dec.{eqb, ltb}
 use lib.ListN.{length}
 use Rattle.messages.specs.declared.received.Charge.{Charge}
 use Rattle.messages.specs.declared.received.Query.{Query}
@@ -16,7 +16,8 @@ use Rattle.messages.specs.declared.received.Message.the-variants as message
 use Rattle.messages.specs.declared.received.Recognized.{Recognized}
 use Rattle.messages.specs.declared.received.Recognized.the-variants as recognized
 use Rattle.messages.specs.Identifier.{partsOf}
-use Rattle.messages.specs.Received.{leastLength, recognizedOf}
+use Rattle.messages.specs.Table.{pfOf}
+use Rattle.messages.specs.Received.{rowOf, leastLength, nine, firstWith, recognizedOf}
 use Rattle.settings.specs.declared.Settings.{Settings}
 use Rattle.charge_messages.specs.declared.Content.{Content}
 use Rattle.charge_messages.specs.declared.Content.the-variants as content
@@ -34,7 +35,7 @@ use Rattle.demands.specs.After.{chargeIn, queryIn, isCharge, isQuery}
 use Rattle.controller.specs.Frame.{sessionMoved, contentTaken, chargeTo, queriesMoved, queryTo, messageTo}
 
 -- ---- the answer to a frame: what the checks 3 to 8 make of it, then the message's own part
-frame-view : (c : Controller) (id : ℕ) (s : List ℕ)
+pub frame-view : (c : Controller) (id : ℕ) (s : List ℕ)
     → frameTo c id s ≡ messageTo c (partsOf id .source) s (messageIn (c .settings .own) id s)
 unfolding frameTo
 frame-view c id s = refl
@@ -125,3 +126,34 @@ module _ (own id : ℕ) (s : List ℕ) where
 
   pub view : View
   view = in-case (messageIn own id s) refl
+
+  -- 3 to 8 refuse by a number below 9
+  unfoldable Low : Recognized → Type 0
+  Low (recognized.As m) = Unit {0}
+  Low (recognized.Refused n) = n < 9
+
+  if-low : (t : Bool) (a b : Recognized) → Low a → Low b → Low (cond t a b)
+  if-low true a b h k = h
+  if-low false a b h k = k
+
+  long-low : (p : Recognized) → Low p → Low (longEnough s p)
+  unfolding longEnough Low
+  long-low (recognized.As m) h = if-low (ltb (length s) (leastLength m)) _ _ (omega arith) tt
+  long-low (recognized.Refused n) h = h
+
+  first-low : (pf : ℕ) (ms : List Message) → Low (firstWith pf ms)
+  unfolding Low
+  first-low pf [] = omega arith
+  first-low pf (m ∷ ms) = if-low (eqb pf (pfOf (rowOf m))) _ _ tt (first-low pf ms)
+
+  low : Low (messageIn own id s)
+  unfolding messageIn Low
+  low =
+      if-low (notCan id s) _ _ (omega arith)
+      (if-low (flagsSet (partsOf id)) _ _ (omega arith)
+      (if-low (notForUs own (partsOf id)) _ _ (omega arith)
+      (if-low (badSource own (partsOf id)) _ _ (omega arith) (long-low (recognizedOf (partsOf id .pf)) (first-low (partsOf id .pf) nine)))))
+
+  pub refused-low : (n : ℕ) → messageIn own id s ≡ recognized.Refused n → n < 9
+  unfolding Low
+  refused-low n e = subst Low e low

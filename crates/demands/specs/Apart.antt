@@ -6,6 +6,7 @@ use mathlib.Core.List.{List, [], _∷_, _++_}
 use mathlib.Core.Path.{_≡_}
 use lib.Dec.{eqb}
 use lib.IntN.{ℤ}
+use lib.ListN.{length}
 use Rattle.frames.specs.declared.Frame.{Frame}
 use Rattle.messages.specs.Identifier.{partsOf}
 use Rattle.readings.specs.declared.Readings.{Readings}
@@ -13,6 +14,7 @@ use Rattle.settings.specs.Read.{readOf}
 use Rattle.session.specs.declared.Session.{Session}
 use Rattle.controller.specs.declared.Controller.{Controller}
 use Rattle.controller.specs.Frame.{frameTo}
+use Rattle.refusals.specs.Tick.{tickNumber}
 use Rattle.controller.specs.Tick.{chargeFrames}
 use Rattle.demands.specs.Machine.{Call, Receive, Tick, Write, Read}
 use Rattle.demands.specs.After.{accepts, isRead, after, noSession, isQuery}
@@ -33,11 +35,12 @@ unfoldable pub reaching : ℕ → List Call → List Call
 reaching st [] = []
 reaching st (e ∷ es) = cond (reaches st e) (e ∷ reaching st es) (reaching st es)
 
--- what is seen of a session: after a frame of its station the number answered, after a tick the charge frames sent (a
--- refused tick sends none), with the session then; or that new settings were read
+-- what is seen of a session: after a frame of its station the number answered, after a tick its number and the charge
+-- frames sent (a refused tick sends none), with the session's record then: its station, silence, count and state as the
+-- controller in use holds them; or that new settings were read
 pub data Moment : Type 0 where
   AfterFrame : ℕ → Session → Moment
-  AfterTick : List Frame → Session → Moment
+  AfterTick : ℕ → List Frame → Session → Moment
   AfterRecord : Moment
 
 unfoldable pub sentAt : Controller → Readings → List ℕ → List ℤ → List ℕ → List Frame
@@ -47,7 +50,8 @@ unfoldable pub moments : Controller → Call → List Moment
 moments c (Receive id s) =
     cond (fromStation (c .session .station) id)
     (AfterFrame (frameTo c id s .number) (frameTo c id s .controller .session) ∷ []) []
-moments c (Tick r v t old) = AfterTick (sentAt c r v t old) (after c (Tick r v t old) .session) ∷ []
+moments c (Tick r v t old) =
+    AfterTick (tickNumber r v t (length old)) (sentAt c r v t old) (after c (Tick r v t old) .session) ∷ []
 moments c (Write old) = []
 moments c (Read s) = cond (isRead (readOf s)) (AfterRecord ∷ []) []
 

@@ -13,7 +13,8 @@ use Rattle.controller.specs.declared.Ticked.{Ticked}
 use Rattle.controller.specs.Start.{startNumber, ReadIs}
 use Rattle.controller.specs.Frame.{FrameIs}
 use Rattle.controller.specs.Tick.{TickIs}
-use Rattle.demands.specs.Machine.{Call, Read, Receive, Tick, Write, Box, NoController, Using, Seen, Nothing, Gave, started}
+use Rattle.demands.specs.Machine.{Call, Read, Receive, Tick, Write, Box, NoController, Using, Seen, Gave, started}
+use Rattle.demands.specs.Sent.{framesWritten}
 
 -- a call that was made, and what it gave: an answer and, of a lent buffer, the contents before and after
 pub data CallMade : Type 0 where
@@ -47,17 +48,13 @@ boxThen b (DidReceive id s a) = Using (a .controller)
 boxThen b (DidTick r v t old new k) = Using (k .controller)
 boxThen b (DidWrite old new w) = b
 
--- what the caller has in hand: the number, the bytes written, and the buffer's later contents
+-- what the caller has in hand: the number, the bytes written, the frames that a tick has left in the buffer, and the
+-- buffer's later contents
 unfoldable pub inHand : CallMade → Seen
 inHand (DidRead s a) = Gave (startNumber a) 0 [] []
 inHand (DidReceive id s a) = Gave (a .number) 0 [] []
-inHand (DidTick r v t old new k) = Gave (k .number) (k .bytes) [] new
+inHand (DidTick r v t old new k) = Gave (k .number) (k .bytes) (framesWritten (k .bytes) new) new
 inHand (DidWrite old new w) = Gave (w .number) (w .bytes) [] new
-
--- the same of what the machine gave: its frames are there as their records, in the buffer's later contents
-unfoldable pub plain : Seen → Seen
-plain Nothing = Nothing
-plain (Gave n bytes frames later) = Gave n bytes [] later
 
 -- a list of calls, each made of the controller that the one before it left
 unfoldable pub AllKeepPromises : Box → List CallMade → Type 0
@@ -71,10 +68,6 @@ callsIn (m ∷ ms) = callIn m ∷ callsIn ms
 unfoldable pub allInHand : List CallMade → List Seen
 allInHand [] = []
 allInHand (m ∷ ms) = inHand m ∷ allInHand ms
-
-unfoldable pub allPlain : List Seen → List Seen
-allPlain [] = []
-allPlain (s ∷ ss) = plain s ∷ allPlain ss
 
 unfoldable pub boxLast : Box → List CallMade → Box
 boxLast b [] = b

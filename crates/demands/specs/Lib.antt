@@ -1,6 +1,9 @@
 pub mod Machine
 pub mod InStep
+pub mod Sent
+pub mod FrameKinds
 pub mod Calls
+pub mod Refusals
 pub mod Steps
 pub mod WorkedRows
 pub mod PaperNumbers
@@ -14,6 +17,7 @@ pub mod Gone
 pub mod Silent
 pub mod SilentSlips
 pub mod Unmoved
+pub mod Told
 pub mod Requests
 pub mod Since
 pub mod Reach

@@ -5,10 +5,12 @@ use mathlib.Core.Path.{_≡_}
 use mathlib.Core.Bool.{Bool, false, cond}
 use mathlib.Core.List.{List, [], _∷_, _++_}
 use lib.IntN.{ℤ}
+use lib.ListN.{length}
 use Rattle.frames.specs.declared.Frame.{Frame}
 use Rattle.readings.specs.declared.Readings.{Readings}
 use Rattle.controller.specs.declared.Controller.{Controller}
 use Rattle.controller.specs.Frame.{frameTo}
+use Rattle.refusals.specs.Tick.{tickNumber}
 use Rattle.controller.specs.Tick.{broadcastFrames, cellFrames}
 use Rattle.controller.specs.With.{withSession}
 use Rattle.demands.specs.Machine.{Call, Receive, Tick, Write, Read}
@@ -27,20 +29,17 @@ others [] = []
 others (e ∷ es) = cond (isChargeMessage e) (others es) (e ∷ others es)
 
 -- what comes out beside the session: to a frame that is no charge message, so to each query, the number given; at a
--- tick the broadcasts and the cell frame sent, of which a refused one sends none
+-- tick its number and the broadcasts and the cell frame sent, of which a refused one sends none
 pub data Output : Type 0 where
   NumberGiven : ℕ → Output
-  FramesSent : List Frame → List Frame → Output
+  FramesSent : ℕ → List Frame → Output
 
-unfoldable pub broadcastsAt : Controller → Readings → List ℕ → List ℤ → List ℕ → List Frame
-broadcastsAt c r v t old = cond (accepts r v t old) (broadcastFrames c r v t) []
-
-unfoldable pub cellsAt : Controller → Readings → List ℕ → List ℤ → List ℕ → List Frame
-cellsAt c r v t old = cond (accepts r v t old) (cellFrames c r v t) []
+unfoldable pub besideAt : Controller → Readings → List ℕ → List ℤ → List ℕ → List Frame
+besideAt c r v t old = cond (accepts r v t old) (broadcastFrames c r v t ++ cellFrames c r v t) []
 
 unfoldable pub outputAt : Controller → Call → List Output
 outputAt c (Receive id s) = cond (isCharge id) [] (NumberGiven (frameTo c id s .number) ∷ [])
-outputAt c (Tick r v t old) = FramesSent (broadcastsAt c r v t old) (cellsAt c r v t old) ∷ []
+outputAt c (Tick r v t old) = FramesSent (tickNumber r v t (length old)) (besideAt c r v t old) ∷ []
 outputAt c (Write old) = []
 outputAt c (Read s) = []
 

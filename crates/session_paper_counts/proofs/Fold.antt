@@ -79,13 +79,20 @@ fold-mod d e back p n h =
 pub fold-low : (back p n : ℕ) → fold (nextCount (back + p) back) n ≤ back + p
 fold-low back p n = folded back p n .low
 
--- a count that stays at its limit is as it was up to there
-up-to : (limit n f : ℕ) → f ≡ n → suc n ≤ limit → (t : Bool) → leb limit f ≡ t → cond t limit (f + 1) ≡ suc n
-up-to limit n f e h true k = absurd (omega (arith, e, leb-true limit f k))
-up-to limit n f e h false k = omega (arith, e)
+-- up to `top` a count is its own fold
+up-to : (top back n f : ℕ) → f ≡ n → suc n ≤ top → (t : Bool) → leb top f ≡ t → cond t back (f + 1) ≡ suc n
+up-to top back n f e h true k = absurd (omega (arith, e, leb-true top f k))
+up-to top back n f e h false k = omega (arith, e)
+
+pub fold-same : (top back n : ℕ) → n ≤ top → fold (nextCount top back) n ≡ n
+unfolding fold
+fold-same top back zero h = refl
+fold-same top back (suc n) h =
+    up-to top back n (fold (nextCount top back) n) (fold-same top back n (omega arith)) h (leb top (fold (nextCount top back) n)) refl
 
 pub fold-up-to : (limit n : ℕ) → n ≤ limit → fold (nextUpTo limit) n ≡ n
-unfolding fold
-fold-up-to limit zero h = refl
-fold-up-to limit (suc n) h =
-    up-to limit n (fold (nextUpTo limit) n) (fold-up-to limit n (omega arith)) h (leb limit (fold (nextUpTo limit) n)) refl
+fold-up-to limit n h = fold-same limit limit n h
+
+-- so a fold is its own fold
+pub fold-again : (back p n : ℕ) → fold (nextCount (back + p) back) (fold (nextCount (back + p) back) n) ≡ fold (nextCount (back + p) back) n
+fold-again back p n = fold-same (back + p) back (fold (nextCount (back + p) back) n) (fold-low back p n)

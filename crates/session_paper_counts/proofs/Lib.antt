@@ -5,3 +5,4 @@ pub mod InStep
 pub mod Runs
 pub mod Smaller
 pub mod Bounds
+pub mod Again
