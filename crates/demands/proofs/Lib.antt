@@ -4,6 +4,7 @@ pub mod Sent
 pub mod FrameKinds
 pub mod Demand2
 pub mod Calls
+pub mod Targeted
 pub mod WorkedRows
 pub mod PaperNumbers
 pub mod View
@@ -36,3 +37,4 @@ pub mod SilentRun
 pub mod GoneOutMoves
 pub mod GoneOutLaw
 pub mod GoneOut
+pub mod RequestsSent

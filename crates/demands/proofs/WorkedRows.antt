@@ -5,14 +5,11 @@ use native.Mathlib.Omega.{arith}
 use mathlib.Core.Path.{_≡_, refl, ap, _∙_}
 use mathlib.Core.Bool.{Bool, true, false}
 use mathlib.Core.List.{List, [], _∷_, _++_}
-use borrow.Author.Tests.{lt-leb, lt-ltb}
+use borrow.Author.Tests.{lt-leb}
 use lib.IntN.{ℤ}
 use lib.ListN.{length, replicate}
 use Rattle.units.specs.declared.TenthAmps.{TenthAmps}
-use Rattle.messages.specs.Table.{toTarget}
-use Rattle.messages.specs.declared.identifier.Identifier.{Identifier}
-use Rattle.messages.specs.Identifier.{partsOf, firstBroadcast, identifierOf}
-use Rattle.messages.proofs.Parts.{parts-of-number}
+use Rattle.messages.specs.Identifier.{partsOf}
 use Rattle.settings.specs.declared.Settings.{Settings}
 use Rattle.cells.specs.declared.Cells.{Cells}
 use Rattle.session_states.specs.declared.phases.Phase.{Phase}
@@ -29,6 +26,7 @@ use Rattle.session_by_message.proofs.WorkedRows as outcomes
 use Rattle.session_states.proofs.WorkedRows as phases
 use Rattle.cells.proofs.WorkedRows as cells
 use Rattle.queries.proofs.WorkedRows as queries
+use Rattle.demands.proofs.Targeted.{targeted-pf}
 use Rattle.demands.specs.WorkedRows.{tenths, voltagesAt, temperaturesAt, Asked, Current, NoCurrent, Voltage, askedIn, onward, asked, driveThenRest, asksThenRests, WorkedRows}
 
 module _ (x : Settings) (station cycle time : ℕ) (c : Cells) where
@@ -134,37 +132,20 @@ asks-in-turn a b c h i j =
     )
 
 -- ---- 255 cells end at PF 70 and A0
--- where a PF is targeted it is its identifier's
-targeted-pf : (pf target own : ℕ) → pf < firstBroadcast → target < 256 → own < 256
-    → partsOf (identifierOf (toTarget pf 7) target own) .pf ≡ pf
-targeted-pf pf target own h i j =
-    let p : Identifier = record { priority = 7; reserved = 0; page = 0; pf = pf; ps = target; source = own } in
-    rw (lt-ltb pf firstBroadcast h)
-    (ap (λ (q : Identifier). q .pf)
-    (parts-of-number p
-    (record {
-      priority-3 = omega arith;
-      reserved-1 = omega arith;
-      page-1 = omega arith;
-      pf-8 = omega arith;
-      ps-8 = i;
-      source-8 = j;
-    })))
-
 module _ (own source group : ℕ) (v : List ℕ) (t : List ℤ) (h : own < 256) (i : source < 256) where
   voltages-end : length v ≡ 255 → pastEnd v t (voltagesAt source group) ≡ false → atLast v t (voltagesAt source group) ≡ true
       → partsOf (groupFrame own v t (voltagesAt source group) .id) .pf ≡ 0x70
   unfolding groupFrame
   voltages-end n p l =
       let e : 0x31 + group ≡ 0x70 = queries.voltages-end v t source group n p l in
-      targeted-pf (0x31 + group) source own (omega arith) i h ∙ e
+      targeted-pf (0x31 + group) 7 source own (omega arith) (omega arith) i h ∙ e
 
   temperatures-end : length t ≡ 255 → pastEnd v t (temperaturesAt source group) ≡ false → atLast v t (temperaturesAt source group) ≡ true
       → partsOf (groupFrame own v t (temperaturesAt source group) .id) .pf ≡ 0xa0
   unfolding groupFrame
   temperatures-end n p l =
       let e : 0x81 + group ≡ 0xa0 = queries.temperatures-end v t source group n p l in
-      targeted-pf (0x81 + group) source own (omega arith) i h ∙ e
+      targeted-pf (0x81 + group) 7 source own (omega arith) (omega arith) i h ∙ e
 
 pub worked-rows : WorkedRows
 worked-rows =
