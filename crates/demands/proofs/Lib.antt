@@ -4,6 +4,7 @@ pub mod Sent
 pub mod FrameKinds
 pub mod Demand2
 pub mod Calls
+pub mod Targeted
 pub mod WorkedRows
 pub mod PaperNumbers
 pub mod View
@@ -40,3 +41,4 @@ pub mod GoneOutMoves
 pub mod GoneOutLaw
 pub mod GoneOut
 pub mod RunsMade
+pub mod RequestsSent

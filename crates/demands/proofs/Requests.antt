@@ -1,12 +1,12 @@
 -- "Request R is the smaller of maximum current and the station's maximum": over any run, what a session asks for is
 -- never above the maximum current of the settings in use; and tag 3 allows no more than 4000 (`read-in-range`,
 -- settings), so 4000 minus it is what ECR says. Assumes nothing.
-use Prim.Native.Nat.{ℕ, _/_, _≤_}
+use Prim.Native.Nat.{ℕ, _≤_}
 use native.Mathlib.Omega.{arith}
 use mathlib.Core.Path.{_≡_, refl, sym, ap, subst, _∙_}
 use mathlib.Core.Bool.{Bool, true, false, cond}
 use mathlib.Core.List.{List, [], _∷_}
-use lib.Dec.{leb, ltb}
+use lib.Dec.{leb}
 use lib.IntN.{ℤ}
 use borrow.Author.Tests.{leb-false}
 use Rattle.messages.specs.Identifier.{partsOf}
@@ -41,7 +41,7 @@ use Rattle.controller.specs.declared.Controller.{Controller}
 use Rattle.controller.specs.declared.Answer.{Answer}
 use Rattle.controller.specs.Start.{freshOf}
 use Rattle.controller.specs.Frame.{frameTo}
-use Rattle.session_states.specs.Limits.{silenceLimit, closingLimit, driveLimit, restLimit, holdLimit, leastRequest, mostDrives}
+use Rattle.session_states.specs.Limits.{silenceLimit, closingLimit, driveLimit, restLimit, holdLimit, mostDrives}
 use Rattle.demands.specs.Machine.{Call, Receive, Tick, Write, Read, paperNext}
 use Rattle.demands.specs.After.{accepts, readInto, after, afterAll}
 use Rattle.demands.specs.Requests.{requestOf, requestIn}
@@ -145,7 +145,7 @@ phase-after-asks (Rest request cycle time) full =
 phase-after-asks (Hold time) full = hold-rules-ask 0 time full
 
 -- the state that a turn leads to asks no more than the one before
-unfoldable turnAsks : Turn → ℕ
+unfoldable pub turnAsks : Turn → ℕ
 turnAsks (turn.On st) = requestIn st
 turnAsks (turn.Enter st) = requestIn st
 turnAsks turn.Farewell = 0
@@ -165,7 +165,7 @@ module _ (x : Settings) (r : Readings) (c : Cells) where
   unfolding turnAsks waitingOf requestIn
   wait-asks m silence st h = fewer m (leb silenceLimit silence) _ _ (omega arith) (fewer m (wantedOf r) _ _ h (omega arith))
 
-  turn-asks : (n silence : ℕ) (st : State) → turnAsks (turnOf x r c st n silence) ≤ requestIn st
+  pub turn-asks : (n silence : ℕ) (st : State) → turnAsks (turnOf x r c st n silence) ≤ requestIn st
   unfolding turnAsks turnOf chargingOf stopsOf phaseTurn stopOf stoppingOf errorOf requestIn
   turn-asks n silence Idle = omega arith
   turn-asks n silence Offered = wait-asks 0 silence Offered (omega arith)
@@ -182,7 +182,7 @@ module _ (x : Settings) (r : Readings) (c : Cells) where
   turn-asks n silence (Stopping k e) = fewer 0 (leb closingLimit n) _ _ (omega arith) (omega arith)
   turn-asks n silence Error = fewer 0 (leb closingLimit n) _ _ (omega arith) (omega arith)
 
-  turned-is : (s : Session) (t : Turn) → requestIn (turnedBy s t .state) ≡ turnAsks t
+  pub turned-is : (s : Session) (t : Turn) → requestIn (turnedBy s t .state) ≡ turnAsks t
   unfolding turnedBy turnAsks requestIn
   turned-is s (turn.On st) = refl
   turned-is s (turn.Enter st) = refl
@@ -215,7 +215,7 @@ module _ (x : Settings) (r : Readings) (c : Cells) where
       rw e (turn-asks (s .count) (s .silence) (s .state))
 
 -- ---- any call, any run
-abbrev Within : Controller → Type 0
+abbrev pub Within : Controller → Type 0
 Within c = requestIn (c .session .state) ≤ c .settings .limits .current .0
 
 frame-within : (c : Controller) (id : ℕ) (s : List ℕ) (a : Answer) → Comes c id s a → Within c → Within (a .controller)

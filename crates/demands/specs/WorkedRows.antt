@@ -1,15 +1,16 @@
 -- "Rows marked P below are shown of the definitions, as one table under a single statement" (01, "What a reader can
 -- rely on"; "Worked rows"). In the paper's order. For `worked-rows`.
-use Prim.Native.Nat.{ℕ, suc}
+use Prim.Native.Nat.{ℕ, suc, _<_}
 use mathlib.Core.Path.{_≡_}
 use mathlib.Core.Bool.{Bool, true, false}
-use mathlib.Core.List.{List, [], _∷_}
+use mathlib.Core.List.{List, [], _∷_, _++_}
 use lib.IntN.{ℤ, pos, negsuc}
 use lib.ListN.{length, replicate}
 use Rattle.units.specs.declared.TenthAmps.{TenthAmps}
 use Rattle.units.specs.declared.RawAmps.{RawAmps}
 use Rattle.units.specs.Units.{rawAmps}
-use Rattle.messages.specs.Table.{pfOf, toTarget}
+use Rattle.messages.specs.Table.{toTarget}
+use Rattle.messages.specs.Identifier.{partsOf}
 use Rattle.frames.specs.Frame.{frameOf}
 use Rattle.settings.specs.declared.Settings.{Settings}
 use Rattle.readings.specs.declared.Readings.{Readings}
@@ -17,16 +18,19 @@ use Rattle.readings.specs.Readings.{rawOf}
 use Rattle.cells.specs.declared.Cells.{Cells}
 use Rattle.cells.specs.Figures.{cellCount}
 use Rattle.cells.specs.Summaries.{summaryOf, averageOf}
+use Rattle.session_states.specs.declared.phases.Phase.{Phase}
 use Rattle.session_states.specs.declared.phases.Phase.the-variants.{Drive, Rest, Hold}
-use Rattle.session_states.specs.declared.phases.PhaseAfter.the-variants.{On}
+use Rattle.session_states.specs.declared.phases.PhaseAfter.{PhaseAfter}
+use Rattle.session_states.specs.declared.phases.PhaseAfter.the-variants.{On, Stop}
 use Rattle.session_states.specs.Phases.{startPhase, phaseAfter}
 use Rattle.session_by_message.specs.Offer.{offeredTenths}
 use Rattle.session_frames.specs.Layouts.{holdVoltage, ecrFrame, ecrOf, eimOf, eemOf}
 use Rattle.broadcasts.specs.Layouts.{psOf}
 use Rattle.queries.specs.declared.Kind.the-variants.{Voltages, Temperatures}
 use Rattle.queries.specs.declared.Query.{Query}
-use Rattle.queries.specs.Answering.{groupRow, groupFrame, pastEnd, atLast}
-use Rattle.session_states.specs.Limits.{restLimit}
+use Rattle.queries.specs.Answering.{groupFrame, pastEnd, atLast}
+use Rattle.session_states.specs.Limits.{driveLimit, restLimit}
+use Rattle.session_paper_counts.specs.Literal.{older}
 
 -- so many tenths of an ampere, and a current word of a CMP
 abbrev pub tenths : ℕ → TenthAmps
@@ -41,6 +45,36 @@ voltagesAt source group = record { source = source; kind = Voltages; group = gro
 
 abbrev pub temperaturesAt : ℕ → ℕ → Query
 temperaturesAt source group = record { source = source; kind = Temperatures; group = group }
+
+-- what a tick of a charge asks: in Drive R, in tenths of an ampere; in Rest 0 A; in Hold a constant voltage
+pub data Asked : Type 0 where
+  Current : ℕ → Asked
+  NoCurrent : Asked
+  Voltage : Asked
+
+unfoldable pub askedIn : Phase → Asked
+askedIn (Drive request cycle time) = Current (request .0)
+askedIn (Rest request cycle time) = NoCurrent
+askedIn (Hold time) = Voltage
+
+-- a phase that goes on, and one that stops the charge
+unfoldable pub onward : PhaseAfter → (Phase → List Asked) → List Asked
+onward (On p) then = then p
+onward (Stop cause) then = []
+
+-- a charge's phase over ticks, each of which says whether a cell is at or above maximum: the phase after its rules is
+-- asked of the station, and is one tick older then
+unfoldable pub asked : Phase → List Bool → List Asked
+asked p [] = []
+asked p (full ∷ ticks) = onward (phaseAfter p full) (λ q. askedIn q ∷ asked (older q) ticks)
+
+-- `n` ticks of a Drive, then a cell is full: that tick is the first of the Rest's 6000; then later ticks
+unfoldable pub driveThenRest : ℕ → List Bool → List Bool
+driveThenRest n later = replicate n false ++ (true ∷ (replicate 5999 false ++ later))
+
+-- what they ask
+unfoldable pub asksThenRests : ℕ → ℕ → List Asked → List Asked
+asksThenRests request n later = replicate n (Current request) ++ (replicate 6000 NoCurrent ++ later)
 
 pub record WorkedRows : Type 0 where
   -- EIM from F4 to 56 is 182756F4, whatever it says
@@ -64,15 +98,11 @@ pub record WorkedRows : Type 0 where
       → cellCount (c .volts) ≡ 48 → holdVoltage x c .0 ≡ 1704
   pub hold-3 : (x : Settings) (c : Cells) → x .limits .pack .0 ≡ 65535
       → cellCount (c .volts) ≡ 3 → holdVoltage x c .0 ≡ 106
-  -- 400 is asked 400, 200, 100, then Hold: each Drive goes to Rest at a full cell, each Rest of 6000 ticks to what
-  -- follows
-  pub asked-400 : startPhase (tenths 400) (tenths 400) ≡ Drive (tenths 400) 1 0
-  pub rest-400 : phaseAfter (Drive (tenths 400) 1 0) true ≡ On (Rest (tenths 400) 1 0)
-  pub asked-200 : phaseAfter (Rest (tenths 400) 1 restLimit) false ≡ On (Drive (tenths 200) 2 0)
-  pub rest-200 : phaseAfter (Drive (tenths 200) 2 0) true ≡ On (Rest (tenths 200) 2 0)
-  pub asked-100 : phaseAfter (Rest (tenths 200) 2 restLimit) false ≡ On (Drive (tenths 100) 3 0)
-  pub rest-100 : phaseAfter (Drive (tenths 100) 3 0) true ≡ On (Rest (tenths 100) 3 0)
-  pub then-hold : phaseAfter (Rest (tenths 100) 3 restLimit) false ≡ On (Hold 0)
+  -- 400 is asked 400, 200, 100, then Hold: over the ticks of a charge that starts so, with a cell full once in each
+  -- Drive, after `a`, `b` and `c` ticks of it, and at no other tick
+  pub asked-400 : (a b c : ℕ) → a < driveLimit → b < driveLimit → c < driveLimit
+      → asked (startPhase (tenths 400) (tenths 400)) (driveThenRest a (driveThenRest b (driveThenRest c (false ∷ []))))
+      ≡ asksThenRests 400 a (asksThenRests 200 b (asksThenRests 100 c (Voltage ∷ [])))
   -- which ECR says in mode 02 with voltage 0, as 4000 minus each
   pub ecr-400 : (x : Settings) (station cycle time : ℕ) (c : Cells)
       → ecrOf x station c (Drive (tenths 400) cycle time) ≡ ecrFrame x station 0 3600 0x02
@@ -94,14 +124,15 @@ pub record WorkedRows : Type 0 where
   pub group-32 : (a b c d own source : ℕ) (t : List ℤ)
       → groupFrame own (a ∷ b ∷ c ∷ d ∷ 331 ∷ 332 ∷ []) t (voltagesAt source 1)
       ≡ frameOf (toTarget 0x32 7) source own (0x00 ∷ 0x00 ∷ 0x00 ∷ 0x00 ∷ 0x4c ∷ 0x01 ∷ 0x4b ∷ 0x01 ∷ [])
-  -- 255 cells end at PF 70 and A0: the group that is sent last has that PF, and there is one
-  pub voltages-end : (v : List ℕ) (t : List ℤ) (source group : ℕ) → length v ≡ 255
+  -- 255 cells end at PF 70 and A0: the frame of the group that is sent last has that PF in its identifier, and there is
+  -- one
+  pub voltages-end : (own source group : ℕ) (v : List ℕ) (t : List ℤ) → own < 256 → source < 256 → length v ≡ 255
       → pastEnd v t (voltagesAt source group) ≡ false → atLast v t (voltagesAt source group) ≡ true
-      → pfOf (groupRow Voltages group) ≡ 0x70
+      → partsOf (groupFrame own v t (voltagesAt source group) .id) .pf ≡ 0x70
   pub voltages-sent : (v : List ℕ) (t : List ℤ) (source : ℕ) → length v ≡ 255
       → (pastEnd v t (voltagesAt source 63) ≡ false) × (atLast v t (voltagesAt source 63) ≡ true)
-  pub temperatures-end : (v : List ℕ) (t : List ℤ) (source group : ℕ) → length t ≡ 255
+  pub temperatures-end : (own source group : ℕ) (v : List ℕ) (t : List ℤ) → own < 256 → source < 256 → length t ≡ 255
       → pastEnd v t (temperaturesAt source group) ≡ false → atLast v t (temperaturesAt source group) ≡ true
-      → pfOf (groupRow Temperatures group) ≡ 0xa0
+      → partsOf (groupFrame own v t (temperaturesAt source group) .id) .pf ≡ 0xa0
   pub temperatures-sent : (v : List ℕ) (t : List ℤ) (source : ℕ) → length t ≡ 255
       → (pastEnd v t (temperaturesAt source 31) ≡ false) × (atLast v t (temperaturesAt source 31) ≡ true)
