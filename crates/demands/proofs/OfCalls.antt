@@ -50,7 +50,7 @@ use Rattle.demands.proofs.Stops as stops
 use Rattle.demands.proofs.Ends as ends
 use Rattle.demands.proofs.Over as idle
 use Rattle.demands.proofs.GoneOut as out
-use Rattle.demands.proofs.Apart.{unreached}
+use Rattle.demands.proofs.Apart as apart
 use Rattle.demands.proofs.Demand1.{demand-1}
 
 -- ---- what the code's controller shows of the machine's
@@ -284,7 +284,7 @@ settings-use : (ms : List CallMade) (c : Controller) (m : CallMade) → AfterCal
 unfolding codeOf
 settings-use ms c m a h = ap (λ (z : Controller). z .settings) (use-is c (its-own ms c a) m h)
 
-pub unreached-by : Unreached
-unreached-by ms c m a h o r =
-    let u : Alike (after c (callIn m)) c = unreached c (callIn m) o r in
+pub unreached : Unreached
+unreached ms c m a h o r =
+    let u : Alike (after c (callIn m)) c = apart.unreached c (callIn m) o r in
     (settings-use ms c m a h ∙ u .settings, session-use ms c m a h ∙ (ap folds (u .session) ∙ own-session ms c a))

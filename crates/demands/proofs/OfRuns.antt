@@ -25,9 +25,9 @@ use Rattle.session_paper_counts.specs.Folds.{fold, foldPhase, foldState, foldCo
 use Rattle.controller.specs.declared.Controller.{Controller}
 use Rattle.controller.specs.declared.Answer.{Answer}
 use Rattle.controller.specs.Start.{freshOf}
-use Rattle.demands.specs.Machine.{Call, Read, Receive, Tick, Write, Box, NoController, Using, boxAfter, paperNext}
+use Rattle.demands.specs.Machine.{Call, Read, Receive, Tick, Write, Box, NoController, Using, Seen, boxAfter, paperNext, seenOf, framesSeen}
 use Rattle.demands.specs.InStep.{codeOf, codeBox}
-use Rattle.demands.specs.Calls.{CallMade, DidReceive, callIn, KeepsPromise, boxThen, AllKeepPromises, callsIn}
+use Rattle.demands.specs.Calls.{CallMade, DidReceive, DidTick, callIn, KeepsPromise, boxThen, inHand, AllKeepPromises, callsIn}
 use Rattle.demands.specs.Steps.{Step, stepsOf, stepsMade}
 use Rattle.demands.specs.Since.{AfterCalls, useThen, useLast, Since}
 use Rattle.demands.specs.After.{after, afterAll, noSession, endsWithin}
@@ -36,12 +36,12 @@ use Rattle.demands.specs.Apart.{reaching}
 use Rattle.demands.specs.Silent.{feeds, Unheeded, Silence, ticksIn}
 use Rattle.demands.specs.SilentIn.{UnheededIn, SilentIn}
 use Rattle.demands.specs.Reach.{chargingWith, UntilCvm, Follows}
-use Rattle.demands.specs.Requests.{requestOf, requestIn}
+use Rattle.demands.specs.Requests.{requestOf, requestIn, AllAskWithin}
 use Rattle.demands.specs.Told.{isOver, endsIn}
-use Rattle.demands.specs.Statements.{NextCalls, Undisturbed, Unmoved, Within801, SilentStation, CimHoldsNothing, CrmHoldsNothing, ReachesCharging, FromCimToCharging, NoSooner, Demand1, Demand2, NeverAboveTheMaximum}
+use Rattle.demands.specs.Statements.{NextCalls, Undisturbed, Unmoved, Within801, SilentStation, CimHoldsNothing, CrmHoldsNothing, ReachesCharging, FromCimToCharging, NoSooner, Demand1, Demand2, NeverAboveTheMaximum, NoRequestAbove}
 use Rattle.demands.proofs.Steps.{kind-folds}
 use Rattle.demands.proofs.Since.{after-is, using-same, since}
-use Rattle.demands.proofs.StepsMade.{codeStep, then-code, then-use, Behind, behind, its-own, steps-from-use}
+use Rattle.demands.proofs.StepsMade.{codeStep, in-hand-seen, then-code, then-use, Behind, behind, its-own, steps-from-use}
 use Rattle.demands.proofs.Told.{over-folds, ends-told, undisturbed-life, undisturbed-end, unmoved-outputs}
 use Rattle.demands.proofs.OfCalls.{no-session-code, charging-code, in-idle}
 use Rattle.demands.proofs.Silent as silent
@@ -49,6 +49,7 @@ use Rattle.demands.proofs.SilentSlips as slips
 use Rattle.demands.proofs.Reach as reach
 use Rattle.demands.proofs.ReachLeast as least
 use Rattle.demands.proofs.Requests as requests
+use Rattle.demands.proofs.RequestsSent as sent
 use Rattle.demands.proofs.Demand1 as one
 use Rattle.demands.proofs.Calls as two
 
@@ -224,3 +225,16 @@ never-above-the-maximum ms c a =
     (requests.never-above-the-maximum (s .settings) (s .later)) in
     subst (λ (z : Controller). requestIn (z .session .state) ≤ z .settings .limits .current .0) (b .code)
     (rw (asks-code (b .paper), settings-code (b .paper)) h)
+
+-- nor as sent: the frames in the buffer are those that the machine's controller behind sends
+pub no-request-above : NoRequestAbove
+unfolding callIn inHand framesSeen
+no-request-above ms c r v t old new k a h =
+    let b : Behind ms c = behind ms c a in
+    let m : CallMade = DidTick r v t old new k in
+    let e : inHand m ≡ seenOf paperNext (Using (b .paper)) (Tick r v t old) =
+    in-hand-seen (Using (b .paper)) m (subst (λ (z : Box). KeepsPromise z m) (sym (code-box (b .paper) c (b .code))) h) in
+    let x : codeOf (b .paper) .settings ≡ c .settings = ap (λ (z : Controller). z .settings) (b .code) in
+    subst (λ (z : Settings). AllAskWithin z (framesSeen (inHand m))) (sym (settings-code (b .paper)) ∙ x)
+    (subst (λ (z : Seen). AllAskWithin (b .paper .settings) (framesSeen z)) (sym e)
+    (sent.no-request-above (callsIn ms) (b .paper) (b .run) (Tick r v t old)))

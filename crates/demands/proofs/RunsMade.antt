@@ -32,7 +32,8 @@ use Rattle.demands.proofs.StepsMade.{its-own, use-is, steps-from-use, l
 use Rattle.demands.proofs.Promised.{promised, promise-kept, promised-is, allPromised, promises-kept, promised-calls, read-first, read-kept, first-box, after-record}
 use Rattle.demands.proofs.Silent.{repeated, zeros, quietReadings, such-a-tick, not-within-800}
 use Rattle.demands.proofs.SilentRun.{afterCim, just-opened, tick, ticks-silent, ticks-many}
-use Rattle.demands.proofs.ReachRun.{ours, settings-good, offer, cim, eight, eight-are-enough}
+use Rattle.demands.proofs.ReachRun.{ours, settings-good, offer, cim, eight}
+use Rattle.demands.proofs.ReachRun as run
 use Rattle.demands.proofs.OfRuns.{ends-made, silence-to, last-session}
 
 -- ---- the record
@@ -132,8 +133,8 @@ calls-with-record : callsIn (read-first (recordOf ours) ours ours-read ∷ hands
 unfolding callsIn callIn read-first
 calls-with-record = refl
 
-pub eight-are-enough-made : EightAreEnough
-eight-are-enough-made =
+pub eight-are-enough : EightAreEnough
+eight-are-enough =
     record {
       calls = read-first (recordOf ours) ours ours-read ∷ handshake;
       controller = useLast (freshOf ours) handshake;
@@ -141,9 +142,9 @@ eight-are-enough-made =
       charging =
           ap (λ (s : Session). isCharging (s .state))
           (last-session _ (freshOf ours) handshake fresh-in-use shake-kept
-          ∙ ap folds (ap (λ (l : List Call). afterAll (freshOf ours) l .session) the-shake ∙ eight-are-enough .1))
+          ∙ ap folds (ap (λ (l : List Call). afterAll (freshOf ours) l .session) the-shake ∙ run.eight-are-enough .1))
           ∙ is-charging;
       ticks =
           ap ticksIn calls-with-record
-          ∙ (ticks-with-record (recordOf ours) (callsIn handshake) ∙ (ap ticksIn the-shake ∙ eight-are-enough .0));
+          ∙ (ticks-with-record (recordOf ours) (callsIn handshake) ∙ (ap ticksIn the-shake ∙ run.eight-are-enough .0));
     }

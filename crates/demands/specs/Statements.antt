@@ -1,8 +1,8 @@
 -- THE STATEMENTS, to be read aloud: one for each sentence of docs/INSURER.md and docs/PROMISES.md that claims something
 -- of the controller, in their order. Each is of the calls that were made and of what they gave: `AfterCalls ms c` is
 -- "after the calls `ms` from the start the controller in use is `c`", `NextCall c m` "the call `m` is made then", and
--- `useThen c m` is the controller in use after it. The theorems of these types stand in proofs/OfCalls.antt and
--- proofs/OfRuns.antt; a theorem's name is its statement's, in small letters.
+-- `useThen c m` is the controller in use after it. The theorems of these types stand in proofs/Statements.antt, one a
+-- line; a theorem's name is its statement's, in small letters.
 use Prim.Native.Nat.{ℕ, _≤_}
 use mathlib.Core.Logic.{_⊎_}
 use mathlib.Core.Path.{_≡_}
@@ -45,7 +45,8 @@ use Rattle.demands.specs.Silent.{sendsNothing, ticksIn, longest}
 use Rattle.demands.specs.SilentIn.{SilentIn}
 use Rattle.demands.specs.SilentSlips.{isCim, isHandshake, SaysOnly}
 use Rattle.demands.specs.Reach.{UntilCvm, Follows, chargingWith}
-use Rattle.demands.specs.Requests.{requestIn}
+use Rattle.demands.specs.Requests.{requestIn, AllAskWithin}
+use Rattle.demands.specs.Sent.{framesWritten}
 use Rattle.demands.specs.WorkedRows.{WorkedRows}
 use Rattle.demands.specs.PaperNumbers.{PaperNumbers}
 
@@ -303,6 +304,14 @@ abbrev pub NeverAboveTheMaximum : Type 0
 NeverAboveTheMaximum =
     (ms : List CallMade) (c : Controller) → AfterCalls ms c
     → requestIn (c .session .state) ≤ c .settings .limits .current .0
+
+-- "no ECR frame of any run asks more than the settings' maximum current, nor in Hold more than the maximum pack
+-- voltage, told by the bytes sent"
+abbrev pub NoRequestAbove : Type 0
+NoRequestAbove =
+    (ms : List CallMade) (c : Controller) (r : Readings) (v : List ℕ) (t : List ℤ) (old new : List ℕ) (k : Ticked)
+    → AfterCalls ms c → NextCall c (DidTick r v t old new k)
+    → AllAskWithin (c .settings) (framesWritten (k .bytes) new)
 
 -- "the rows marked P, as one table under a single statement"; "each number behind a name is the paper's"
 abbrev pub TheWorkedRows : Type 0

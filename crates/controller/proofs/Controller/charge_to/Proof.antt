@@ -19,7 +19,7 @@ refused-requires c κs = search needs
 
 returns : tie.Need-returns
 unfolding chargeTo mayCharge
-returns c = rw (sym (c .before .before .before .may-speak .ensures) ∙ c .before .before .if1 .taken) (c .content-taken .ensures ∙ rw (c .before .read-content .answer))
+returns c = rw (sym (c .before .before .before .may-speak .ensures) ∙ c .before .before .if1 .taken) (c .content-taken .ensures ∙ rw (c .before .read-content .ensures .1))
 
 returns-2 : tie.Need-returns-2
 unfolding chargeTo mayCharge
