@@ -40,7 +40,7 @@ pf-at : (a d e f n : ℕ) → n ≡ a % 8 * 0x400_0000 + 0 % 2 * 0x200_0000 + 0 
 pf-at a d e f n whole hd he hf = let q : n / 0x1_0000 ≡ a % 8 * 1024 + d = omega arith in omega arith
 
 module _ (row : Row) (target own : ℕ) (pf : pfOf row < 256) (ps : broadcastPs row < 256) (t : target < 256) (o : own < 256) where
-  pf-sent : partsOf (identifierOf row target own) .pf ≡ pfOf row
+  pub pf-sent : partsOf (identifierOf row target own) .pf ≡ pfOf row
   unfolding partsOf numberOf
   pf-sent = pf-at (priorityOf row) (pfOf row) (psPart row target) own _ refl pf (ps-byte (ltb (pfOf row) 240) target (broadcastPs row) t ps) o
 

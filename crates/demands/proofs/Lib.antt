@@ -4,7 +4,6 @@ pub mod Sent
 pub mod FrameKinds
 pub mod Demand2
 pub mod Calls
-pub mod Targeted
 pub mod WorkedRows
 pub mod PaperNumbers
 pub mod View

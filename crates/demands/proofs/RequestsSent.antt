@@ -39,9 +39,8 @@ use Rattle.controller.specs.Tick.{tickFrames, chargeFrames, accepted}
 use Rattle.demands.specs.Machine.{Call, Read, Receive, Tick, Write, NoController, Using, Gave, paperNext, seenOf, boxAt, framesSeen}
 use Rattle.demands.specs.FrameKinds.{pfIn, isChargeFrame, only}
 use Rattle.demands.specs.Requests.{requestOf, requestIn, isEcr, AsksWithin, AllAskWithin}
-use Rattle.demands.proofs.Targeted.{targeted-pf}
 use Rattle.demands.proofs.Sent.{Each, each-if, each-one, each-two, each-cons, each-none}
-use Rattle.demands.proofs.FrameKinds.{Bytes, charge-frames-told}
+use Rattle.demands.proofs.FrameKinds.{pf-sent, Bytes, charge-frames-told}
 use Rattle.demands.proofs.Addresses.{addresses}
 use Rattle.demands.proofs.Since.{since}
 use Rattle.demands.proofs.Requests.{turnAsks, turn-asks, turned-is, Within, never-above-the-maximum}
@@ -67,7 +66,7 @@ module _ (x : Settings) where
         → Asks (frameOf (toTarget pf priority) station (x .own) bytes)
     unfolding isEcr pfIn
     other pf priority bytes h i e z =
-        absurd (false≢true (sym e ∙ (ap (λ (n : ℕ). eqb n (pfOf ECR)) (sym (targeted-pf pf priority station (x .own) h i k o)) ∙ z)))
+        absurd (false≢true (sym e ∙ (ap (λ (n : ℕ). eqb n (pfOf ECR)) (sym (pf-sent (toTarget pf priority) station (x .own) (omega arith) (omega arith) k o)) ∙ z)))
 
   -- an ECR, by the words that it is made of
   made-within : (station v i mode : ℕ) → v ≤ x .limits .pack .0 → 4000 ≤ i + x .limits .current .0 → AsksWithin x (ecrFrame x station v i mode)

@@ -26,7 +26,7 @@ use Rattle.session_by_message.proofs.WorkedRows as outcomes
 use Rattle.session_states.proofs.WorkedRows as phases
 use Rattle.cells.proofs.WorkedRows as cells
 use Rattle.queries.proofs.WorkedRows as queries
-use Rattle.demands.proofs.Targeted.{targeted-pf}
+use Rattle.demands.proofs.FrameKinds.{pf-sent}
 use Rattle.demands.specs.WorkedRows.{tenths, voltagesAt, temperaturesAt, Asked, Current, NoCurrent, Voltage, askedIn, onward, asked, driveThenRest, asksThenRests, WorkedRows}
 
 module _ (x : Settings) (station cycle time : ℕ) (c : Cells) where
@@ -138,14 +138,14 @@ module _ (own source group : ℕ) (v : List ℕ) (t : List ℤ) (h : own < 256) 
   unfolding groupFrame
   voltages-end n p l =
       let e : 0x31 + group ≡ 0x70 = queries.voltages-end v t source group n p l in
-      targeted-pf (0x31 + group) 7 source own (omega arith) (omega arith) i h ∙ e
+      pf-sent (toTarget (0x31 + group) 7) source own (omega arith) (omega arith) i h ∙ e
 
   temperatures-end : length t ≡ 255 → pastEnd v t (temperaturesAt source group) ≡ false → atLast v t (temperaturesAt source group) ≡ true
       → partsOf (groupFrame own v t (temperaturesAt source group) .id) .pf ≡ 0xa0
   unfolding groupFrame
   temperatures-end n p l =
       let e : 0x81 + group ≡ 0xa0 = queries.temperatures-end v t source group n p l in
-      targeted-pf (0x81 + group) 7 source own (omega arith) (omega arith) i h ∙ e
+      pf-sent (toTarget (0x81 + group) 7) source own (omega arith) (omega arith) i h ∙ e
 
 pub worked-rows : WorkedRows
 worked-rows =

@@ -1,7 +1,7 @@
 -- Rows of 01, "Worked rows", marked P, that are about requests. Assumes nothing.
 use Prim.Native.Nat.{ℕ}
 use mathlib.Core.Path.{_≡_, refl}
-use mathlib.Core.Bool.{true, false}
+use mathlib.Core.Bool.{false}
 use Rattle.units.specs.declared.TenthAmps.{TenthAmps}
 use Rattle.session_states.specs.declared.phases.Phase.the-variants.{Drive, Rest, Hold}
 use Rattle.session_states.specs.declared.phases.PhaseAfter.the-variants.{On}
@@ -10,35 +10,6 @@ use Rattle.session_states.specs.Phases.{startPhase, afterRest, driveRule
 -- so many tenths of an ampere
 abbrev pub tenths : ℕ → TenthAmps
 tenths n = record { 0 = n }
-
--- 400 is asked 400, 200, 100, then Hold: each Drive goes to Rest at a full cell, and each Rest of 6000 ticks to what follows
-pub asked-400 : startPhase (tenths 400) (tenths 400) ≡ Drive (tenths 400) 1 0
-unfolding startPhase
-asked-400 = refl
-
-pub rest-400 : phaseAfter (Drive (tenths 400) 1 0) true ≡ On (Rest (tenths 400) 1 0)
-unfolding phaseAfter driveRules
-rest-400 = refl
-
-pub then-200 : phaseAfter (Rest (tenths 400) 1 6000) false ≡ On (Drive (tenths 200) 2 0)
-unfolding phaseAfter afterRest driveRules
-then-200 = refl
-
-pub rest-200 : phaseAfter (Drive (tenths 200) 2 0) true ≡ On (Rest (tenths 200) 2 0)
-unfolding phaseAfter driveRules
-rest-200 = refl
-
-pub then-100 : phaseAfter (Rest (tenths 200) 2 6000) false ≡ On (Drive (tenths 100) 3 0)
-unfolding phaseAfter afterRest driveRules
-then-100 = refl
-
-pub rest-100 : phaseAfter (Drive (tenths 100) 3 0) true ≡ On (Rest (tenths 100) 3 0)
-unfolding phaseAfter driveRules
-rest-100 = refl
-
-pub then-hold : phaseAfter (Rest (tenths 100) 3 6000) false ≡ On (Hold 0)
-unfolding phaseAfter afterRest holdRules
-then-hold = refl
 
 -- R 60 drives, 59 holds: at the start by the station's maximum, and after a Rest
 pub sixty-drives : startPhase (tenths 400) (tenths 60) ≡ Drive (tenths 60) 1 0
