@@ -9,6 +9,7 @@ use borrow.Author.Tests.{lt-leb}
 use lib.IntN.{ℤ}
 use lib.ListN.{length, replicate}
 use Rattle.units.specs.declared.TenthAmps.{TenthAmps}
+use Rattle.messages.specs.Table.{toTarget}
 use Rattle.messages.specs.Identifier.{partsOf}
 use Rattle.settings.specs.declared.Settings.{Settings}
 use Rattle.cells.specs.declared.Cells.{Cells}
