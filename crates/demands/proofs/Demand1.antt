@@ -52,10 +52,11 @@ use Rattle.controller.specs.Frame.{refused, mayCharge, kindOf, frameTo, session
 use Rattle.controller.specs.Tick.{accepted, TickIs}
 use Rattle.refusals.specs.Frame.{notCan, flagsSet, notForUs, badSource, longEnough, messageIn}
 use Rattle.refusals.specs.Tick.{tickNumber}
+use Rattle.session_states.specs.States.{isBeforeCharging}
 use Rattle.demands.specs.Says.{chargeOf}
 use Rattle.demands.specs.Machine.{Call, Read, Receive, Tick, Write, Box, NoController, Using, started, numberSeen}
 use Rattle.demands.specs.Calls.{CallMade, DidRead, DidReceive, DidTick, DidWrite, callIn, KeepsPromise, boxThen, inHand}
-use Rattle.demands.specs.Refusals.{isBeforeCharging, isCimFrame, silenceAtZero, leftBy, boxLeftBy, lentBefore, lentAfter, bytesGiven, numberGiven, LeftAsItWas}
+use Rattle.demands.specs.Refusals.{isCimFrame, silenceAtZero, leftBy, boxLeftBy, lentBefore, lentAfter, bytesGiven, numberGiven, LeftAsItWas}
 use Rattle.demands.specs.SilentSlips.{isCim}
 use Rattle.controller.specs.With.{withSession, withQueries}
 use Rattle.demands.proofs.Tests.{same}

@@ -23,7 +23,7 @@ use Rattle.charge_messages.specs.declared.ChargeMessage.{ChargeMessage}
 use Rattle.charge_messages.specs.declared.ChargeMessage.the-variants.{Cim, Cvm, Cmp, Crm, Ccs, Cst, Cem}
 use Rattle.charge_messages.specs.declared.Offer.{Offer}
 use Rattle.session_states.specs.Limits.{firstEcp}
-use Rattle.session_states.specs.States.{isIdle, isStopping}
+use Rattle.session_states.specs.States.{isIdle, isStopping, isOffered, isParameters, isReady}
 use Rattle.session_states.specs.declared.states.Est.{Est}
 use Rattle.session_states.specs.declared.states.Est.the-variants.{Awaited, Fixed}
 use Rattle.session_states.specs.declared.states.State.{State}
@@ -41,7 +41,7 @@ use Rattle.controller.specs.Frame.{frameTo, sessionMoved}
 use Rattle.demands.specs.Machine.{Call, NoController, Using, paperNext, boxAt}
 use Rattle.demands.specs.Says.{chargeOf, Says}
 use Rattle.demands.specs.Steps.{stepsOf}
-use Rattle.demands.specs.GoneOut.{Watch, holds, gone, isOffered, isParameters, isReady, isReadyYes, isOurs, saysYes, isCmp, eim, ecp, erm, est, sinceFirstTick, sinceFirstEcp}
+use Rattle.demands.specs.GoneOut.{Watch, holds, gone, isReadyYes, isOurs, saysYes, isCmp, eim, ecp, erm, est, sinceFirstTick, sinceFirstEcp}
 use Rattle.demands.proofs.Tests.{or-left, or-right}
 use Rattle.demands.proofs.Comes.{taken-in}
 use Rattle.demands.proofs.Outcomes.{outcome-leads}

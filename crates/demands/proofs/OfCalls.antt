@@ -21,7 +21,7 @@ use Rattle.refusals.specs.Tick.{tickNumber}
 use Rattle.session_states.specs.declared.phases.Phase.{Phase}
 use Rattle.session_states.specs.declared.states.State.{State}
 use Rattle.session_states.specs.declared.states.State.the-variants.{Idle, Offered, Unverified, Parameters, Ready, Charging, Stopping, Error}
-use Rattle.session_states.specs.States.{isIdle, isCharging, isStopping}
+use Rattle.session_states.specs.States.{isIdle, isCharging, isStopping, isOffered, isParameters, isReady}
 use Rattle.session.specs.declared.Session.{Session}
 use Rattle.session_states.specs.Limits.{closingLimit}
 use Rattle.session_paper_counts.specs.Folds.{foldState, foldCount, folds}
@@ -40,7 +40,7 @@ use Rattle.demands.specs.Says.{Says}
 use Rattle.demands.specs.After.{accepts, after, noSession}
 use Rattle.demands.specs.Apart.{reaches, Alike}
 use Rattle.demands.specs.Over.{Opens, Ignored}
-use Rattle.demands.specs.GoneOut.{Watch, isHere, holds, sends, isOneOf, takes, goesOn, goneAfter, gone, isOffered, isParameters, isReady, eim, ecp, erm, est}
+use Rattle.demands.specs.GoneOut.{Watch, isHere, holds, sends, isOneOf, takes, goesOn, goneAfter, gone, eim, ecp, erm, est}
 use Rattle.demands.specs.Statements.{NextCall, hasGone, WhatEndsASession, EachEndsASession, EstGone, EarlyAcknowledgement, WhatEndsACharge, EachEndsACharge, WhatARefusedTickDoes, WhatATickDoesInIdle, Over, EachOpens, ReplayedAcknowledgement, CvmTaken, CmpTaken, CrmTaken, Unreached}
 use Rattle.demands.proofs.Steps.{kind-folds, idle-folds}
 use Rattle.demands.proofs.Demand2.{frame-in-step}

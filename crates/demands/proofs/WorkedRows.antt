@@ -113,6 +113,10 @@ then-hold : (full : Bool) → phaseAfter (Rest (tenths 100) 3 restLimit) full �
 unfolding phaseAfter afterRest
 then-hold full = refl
 
+starts-at-400 : startPhase (tenths 400) (tenths 400) ≡ Drive (tenths 400) 1 0
+unfolding startPhase
+starts-at-400 = refl
+
 hold-asks : asked (Hold 0) (false ∷ []) ≡ Voltage ∷ []
 unfolding asked onward askedIn phaseAfter holdRules
 hold-asks = refl
@@ -122,7 +126,7 @@ asks-in-turn : (a b c : ℕ) → a < driveLimit → b < driveLimit → c < drive
     ≡ asksThenRests 400 a (asksThenRests 200 b (asksThenRests 100 c (Voltage ∷ [])))
 asks-in-turn a b c h i j =
     rw (
-      phases.asked-400,
+      starts-at-400,
       drive-then-rest (tenths 400) 1 a _ h,
       same-rules _ _ then-drive-200 (driveThenRest b (driveThenRest c (false ∷ []))),
       drive-then-rest (tenths 200) 2 b _ i,

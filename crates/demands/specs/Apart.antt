@@ -1,5 +1,5 @@
 -- Demand 3, first half: whatever other addresses send, an open session goes as it would without them, up to its end.
--- For `undisturbed`, and for the place of the end `ends-together`, `same-until` and `unreached-never-ends`.
+-- For `undisturbed` and `unreached`; `life` and `Alike` are of any controller of the machine, for their lemmas.
 use Prim.Native.Nat.{ℕ}
 use mathlib.Core.Bool.{Bool, true, false, not, cond, _&&_}
 use mathlib.Core.List.{List, [], _∷_, _++_}

@@ -1,6 +1,6 @@
 -- Demand 2, of the entry points themselves: calls made one after the other, each with the answer that it gave, and each
 -- answer keeping its entry point's promise. Here nothing is said of how a controller goes on but what the promises say.
--- For `demand-2-of-calls`.
+-- For `demand-1`, `demand-2` and, by `AfterCalls`, for every statement.
 use Prim.Native.Nat.{ℕ}
 use mathlib.Core.List.{List, [], _∷_}
 use lib.IntN.{ℤ}

@@ -1,6 +1,7 @@
 -- Which of the frames sent are charge frames, which broadcasts and which cell frames, told by the PF of their
--- identifiers (01, "Identifier and message numbers", "Broadcasts and cell answers"). For `undisturbed-of-calls`,
--- `unmoved-of-calls` and `no-request-above`; that a tick's frames are told apart so is `kinds-of-a-tick`.
+-- identifiers (01, "Identifier and message numbers", "Broadcasts and cell answers"). For `undisturbed`, `unmoved` and
+-- `no-request-above`; that a tick's frames are told apart so is `charge-frames-told`, `broadcasts-told` and
+-- `cell-frames-told`.
 use Prim.Native.Nat.{ℕ}
 use mathlib.Core.Bool.{Bool, true, false, cond, _&&_, _||_}
 use mathlib.Core.List.{List, [], _∷_}

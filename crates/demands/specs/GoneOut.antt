@@ -20,7 +20,7 @@ use Rattle.frames.specs.declared.Frame.{Frame}
 use Rattle.settings.specs.declared.Settings.{Settings}
 use Rattle.session_states.specs.declared.states.State.{State}
 use Rattle.session_states.specs.declared.states.State.the-variants.{Idle, Offered, Unverified, Parameters, Ready, Charging, Stopping, Error}
-use Rattle.session_states.specs.States.{isStopping}
+use Rattle.session_states.specs.States.{isOffered, isParameters, isReady, isStopping}
 use Rattle.session_states.specs.Limits.{firstEcp}
 use Rattle.session_by_message.specs.Message.{goneOut}
 use Rattle.demands.specs.Machine.{Call, Read, Receive, Tick, Write, Box, NoController, Using, Seen, numberSeen, framesSeen}
@@ -80,36 +80,6 @@ gone w before [] = before
 gone w before (x ∷ xs) = gone w (goneAfter w before x) xs
 
 -- ---- the states
-unfoldable pub isOffered : State → Bool
-isOffered Idle = false
-isOffered Offered = true
-isOffered Unverified = false
-isOffered Parameters = false
-isOffered (Ready accepted maximum) = false
-isOffered (Charging p) = false
-isOffered (Stopping acknowledged est) = false
-isOffered Error = false
-
-unfoldable pub isParameters : State → Bool
-isParameters Idle = false
-isParameters Offered = false
-isParameters Unverified = false
-isParameters Parameters = true
-isParameters (Ready accepted maximum) = false
-isParameters (Charging p) = false
-isParameters (Stopping acknowledged est) = false
-isParameters Error = false
-
-unfoldable pub isReady : State → Bool
-isReady Idle = false
-isReady Offered = false
-isReady Unverified = false
-isReady Parameters = false
-isReady (Ready accepted maximum) = true
-isReady (Charging p) = false
-isReady (Stopping acknowledged est) = false
-isReady Error = false
-
 -- Ready, and the last CMP was answered yes
 unfoldable pub isReadyYes : State → Bool
 isReadyYes Idle = false

@@ -1,6 +1,6 @@
 -- Demand 2, the code's controller beside the paper's. The code's counts go back where no test of the paper can tell;
 -- `codeOf` says which controller of the code stands for one with the paper's counts. It is the same but for those
--- counts. For `demand-2` and `demand-2-of-calls`.
+-- counts. For `demand-2`.
 use Prim.Native.Nat.{_%_}
 use mathlib.Core.Path.{_≡_}
 use Rattle.session_paper_counts.specs.Folds.{folds}

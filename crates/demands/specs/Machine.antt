@@ -1,8 +1,8 @@
 -- The paper's machine over any list of calls (01, "What the box does", "Numbers returned"). A controller's rules for a
 -- frame, for what a tick sends and for settings are the definitions that the entry points promise; how counts go on is
 -- the paper's: the number of accepted ticks, a state's count, silence and a phase's time are one more after each
--- accepted tick, for ever. For `demand-2` and `demand-2-of-calls`; all that is said of calls is said of this machine
--- too (`after-is`, `seen-tick`, `seen-frame`, `in-use`).
+-- accepted tick, for ever. For `demand-2`; every other statement is shown of this machine first, and carried over to
+-- the calls that were made (`steps-made`).
 use Prim.Native.Nat.{ℕ, _+_, _*_}
 use mathlib.Core.Bool.{cond}
 use mathlib.Core.List.{List, [], _∷_, _++_}

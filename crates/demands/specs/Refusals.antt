@@ -8,24 +8,12 @@ use mathlib.Core.List.{List, []}
 use lib.Dec.{eqb}
 use Rattle.messages.specs.Table.{pfOf, CIM}
 use Rattle.messages.specs.Identifier.{partsOf}
-use Rattle.session_states.specs.declared.states.State.{State}
-use Rattle.session_states.specs.declared.states.State.the-variants.{Idle, Offered, Unverified, Parameters, Ready, Charging, Stopping, Error}
+use Rattle.session_states.specs.States.{isBeforeCharging}
 use Rattle.session.specs.Session.{withSilence}
 use Rattle.controller.specs.declared.Controller.{Controller}
 use Rattle.controller.specs.With.{withSession}
 use Rattle.demands.specs.Machine.{Call, Read, Receive, Tick, Write, Box, NoController, Using, numberSeen}
 use Rattle.demands.specs.Calls.{CallMade, DidRead, DidReceive, DidTick, DidWrite, callIn, boxThen, inHand}
-
--- from Offered to Ready
-unfoldable pub isBeforeCharging : State → Bool
-isBeforeCharging Idle = false
-isBeforeCharging Offered = true
-isBeforeCharging Unverified = true
-isBeforeCharging Parameters = true
-isBeforeCharging (Ready accepted maximum) = true
-isBeforeCharging (Charging p) = false
-isBeforeCharging (Stopping acknowledged est) = false
-isBeforeCharging Error = false
 
 -- by its PF the frame is a CIM
 unfoldable pub isCimFrame : ℕ → Bool

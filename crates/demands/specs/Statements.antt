@@ -20,7 +20,7 @@ use Rattle.charge_messages.specs.declared.Offer.{Offer}
 use Rattle.charge_messages.specs.declared.ChargeMessage.the-variants.{Cim, Cvm, Cmp, Crm, Cst}
 use Rattle.session_states.specs.declared.phases.Phase.{Phase}
 use Rattle.session_states.specs.declared.states.State.the-variants.{Idle, Parameters, Charging}
-use Rattle.session_states.specs.States.{isCharging, isStopping}
+use Rattle.session_states.specs.States.{isCharging, isStopping, isOffered, isParameters, isReady}
 use Rattle.session.specs.Session.{opened}
 use Rattle.refusals.specs.Frame.{listed}
 use Rattle.controller.specs.declared.Controller.{Controller}
@@ -37,7 +37,7 @@ use Rattle.demands.specs.Says.{Says}
 use Rattle.demands.specs.Stops.{whyOf, LeadsTo}
 use Rattle.demands.specs.Ends.{EndsSession, EndsCharge}
 use Rattle.demands.specs.Over.{Opens, Ignored}
-use Rattle.demands.specs.GoneOut.{Watch, gone, eim, ecp, erm, est, isOffered, isParameters, isReady}
+use Rattle.demands.specs.GoneOut.{Watch, gone, eim, ecp, erm, est}
 use Rattle.demands.specs.Apart.{reaches, reaching}
 use Rattle.demands.specs.Unmoved.{others}
 use Rattle.demands.specs.Told.{lifeIn, placeOfEnd, endsIn, outputsIn}

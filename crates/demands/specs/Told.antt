@@ -2,7 +2,7 @@
 -- it. All is read off the steps of a run: the numbers answered, the frames as they stand in the buffers, and the
 -- controllers that the answers hold. The session's record is the controller's `session`: its station, silence, count
 -- and state, with the state's own marks (yes or no and the station's maximum in Ready, the phase in Charging,
--- acknowledged and the EST bytes in Stopping). For `undisturbed-of-calls` and `unmoved-of-calls`.
+-- acknowledged and the EST bytes in Stopping). For `undisturbed` and `unmoved`.
 use Prim.Native.Nat.{ℕ, _+_}
 use mathlib.Core.Bool.{Bool, true, false, cond, _||_}
 use mathlib.Core.List.{List, [], _∷_, _++_}

@@ -14,6 +14,47 @@ isIdle (Charging p) = false
 isIdle (Stopping acknowledged est) = false
 isIdle Error = false
 
+unfoldable pub isOffered : State → Bool
+isOffered Idle = false
+isOffered Offered = true
+isOffered Unverified = false
+isOffered Parameters = false
+isOffered (Ready accepted maximum) = false
+isOffered (Charging p) = false
+isOffered (Stopping acknowledged est) = false
+isOffered Error = false
+
+unfoldable pub isParameters : State → Bool
+isParameters Idle = false
+isParameters Offered = false
+isParameters Unverified = false
+isParameters Parameters = true
+isParameters (Ready accepted maximum) = false
+isParameters (Charging p) = false
+isParameters (Stopping acknowledged est) = false
+isParameters Error = false
+
+unfoldable pub isReady : State → Bool
+isReady Idle = false
+isReady Offered = false
+isReady Unverified = false
+isReady Parameters = false
+isReady (Ready accepted maximum) = true
+isReady (Charging p) = false
+isReady (Stopping acknowledged est) = false
+isReady Error = false
+
+-- from Offered to Ready
+unfoldable pub isBeforeCharging : State → Bool
+isBeforeCharging Idle = false
+isBeforeCharging Offered = true
+isBeforeCharging Unverified = true
+isBeforeCharging Parameters = true
+isBeforeCharging (Ready accepted maximum) = true
+isBeforeCharging (Charging p) = false
+isBeforeCharging (Stopping acknowledged est) = false
+isBeforeCharging Error = false
+
 unfoldable pub isCharging : State → Bool
 isCharging Idle = false
 isCharging Offered = false
