@@ -193,7 +193,7 @@ module _ (c d : Controller) (a : Alike c d) where
   same-moments (Write old) = refl
   same-moments (Read s) = refl
 
--- ---- an call that does not reach the session leaves it as it was, and is not seen
+-- ---- a call that does not reach the session leaves it as it was, and is not seen
 unread : (a : SettingsRead) (c : Controller) → isRead a ≡ false → Alike (readInto a c) c
 unfolding isRead readInto
 unread (read.Read x) c h = absurd (false≢true (sym h))

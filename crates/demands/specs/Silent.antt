@@ -66,7 +66,7 @@ feeds Error (Ccs b) = false
 feeds Error (Cst b) = false
 feeds Error Cem = true
 
--- an call by which the session's station says nothing that the session heeds. By another's frame, a cell query, and a
+-- a call by which the session's station says nothing that the session heeds. By another's frame, a cell query, and a
 -- frame that 3 to 10 refuse, it says nothing at all
 unfoldable pub Unheeded : Controller → Call → Type 0
 Unheeded c (Receive id s) =
