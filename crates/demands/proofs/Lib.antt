@@ -21,6 +21,7 @@ pub mod Apart
 pub mod Silent
 pub mod Together
 pub mod Unmoved
+pub mod Emptied
 pub mod Told
 pub mod OfCalls
 pub mod Promised

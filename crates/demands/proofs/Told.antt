@@ -28,7 +28,7 @@ use Rattle.demands.specs.Calls.{CallMade, AllKeepPromises, callsIn}
 use Rattle.demands.specs.Steps.{Step, stepsOf, stepsMade}
 use Rattle.demands.specs.FrameKinds.{isChargeFrame, isBroadcast, isCellFrame, only}
 use Rattle.demands.specs.After.{accepts, isRead, after, noSession, endsWithin, isCharge}
-use Rattle.demands.specs.Apart.{fromStation, reaches, reaching, Moment, AfterFrame, AfterTick, AfterRecord, sentAt, moments, life, Alike}
+use Rattle.demands.specs.Apart.{fromStation, reaches, emptied, reaching, Moment, AfterFrame, AfterTick, AfterRecord, sentAt, moments, life, Alike}
 use Rattle.demands.specs.Unmoved.{Output, others, besideAt, outputAt, outputs, Beside}
 use Rattle.demands.specs.Since.{AfterCalls}
 use Rattle.demands.specs.Told.{isOver, sessionIn, momentOf, momentAt, lifeIn, Place, Never, With, further, placeOfEnd, endsIn, isBeside, outputOf, outputsIn}
@@ -37,6 +37,7 @@ use Rattle.demands.proofs.Since.{after-is, seen-tick, seen-frame}
 use Rattle.demands.proofs.StepsMade.{codeStep, its-own, steps-from-use, use-bytes}
 use Rattle.demands.proofs.FrameKinds.{Bytes, charge-frames-told, beside-told}
 use Rattle.demands.proofs.Addresses.{bytes-after}
+use Rattle.demands.proofs.Emptied.{reaching-emptied, others-emptied, life-emptied, ends-emptied, outputs-emptied}
 use Rattle.demands.proofs.Apart.{kept-open, undisturbed}
 use Rattle.demands.proofs.Together.{at-once, ends-together}
 use Rattle.demands.proofs.Unmoved.{unmoved}
@@ -161,20 +162,16 @@ life-told st (k ∷ ks) c b o e =
     rest false h f = f h
 
 -- ---- the place of the end is how much is told up to it, if it ends
+one-or-none : (b : Bool) (m : Moment) → length (cond b (m ∷ []) []) ≡ cond b 1 0
+one-or-none true m = refl
+one-or-none false m = refl
+
 heard-moments : (st : ℕ) (k : Call) (seen : Seen) (s : Session) → length (momentOf st k seen s) ≡ cond (reaches st k) 1 0
 unfolding momentOf reaches
-heard-moments st (Receive id l) seen s = one (fromStation st id) (AfterFrame (numberSeen seen) s)
-  where
-    one : (b : Bool) (m : Moment) → length (cond b (m ∷ []) []) ≡ cond b 1 0
-    one true m = refl
-    one false m = refl
+heard-moments st (Receive id l) seen s = one-or-none (fromStation st id) (AfterFrame (numberSeen seen) s)
 heard-moments st (Tick r v t old) seen s = refl
 heard-moments st (Write old) seen s = refl
-heard-moments st (Read l) seen s = one (isRead (readOf l)) AfterRecord
-  where
-    one : (b : Bool) (m : Moment) → length (cond b (m ∷ []) []) ≡ cond b 1 0
-    one true m = refl
-    one false m = refl
+heard-moments st (Read l) seen s = one-or-none (isRead (readOf l)) AfterRecord
 
 place-told : (st : ℕ) (xs : List Step) → placeOfEnd st xs ≡ cond (endsIn xs) (With (length (lifeIn st xs))) Never
 unfolding placeOfEnd endsIn lifeIn further
@@ -238,25 +235,40 @@ module _ (ps : List CallMade) (c : Controller) (a : AfterCalls ps c) where
       ∙ rw (ends-told (callsIn ms) c o, life-told st (callsIn ms) c (use-bytes ps c a) o refl)))
 
   module _ (ms ns : List CallMade) (hm : AllKeepPromises (Using c) ms) (hn : AllKeepPromises (Using c) ns) where
-    pub undisturbed-life : noSession c ≡ false → reaching st (callsIn ms) ≡ reaching st (callsIn ns)
-        → lifeIn st (stepsMade (Using c) ms) ≡ lifeIn st (stepsMade (Using c) ns)
-    undisturbed-life o h =
-        life-made o ms hm
-        ∙ (ap (map foldMoment) (undisturbed c c (callsIn ms) (callsIn ns) o (record { settings = refl; session = refl }) h) ∙ sym (life-made o ns hn))
+    -- the same is heard, whatever the lent buffers hold
+    abbrev SameHeard : Type 0
+    SameHeard = map emptied (reaching st (callsIn ms)) ≡ map emptied (reaching st (callsIn ns))
 
-    pub undisturbed-end : noSession c ≡ false → reaching st (callsIn ms) ≡ reaching st (callsIn ns)
-        → placeOfEnd st (stepsMade (Using c) ms) ≡ placeOfEnd st (stepsMade (Using c) ns)
-    undisturbed-end o h =
-        let al : Alike c c = record { settings = refl; session = refl } in
-        place-made o ms hm
-        ∙ (rw (ends-together c c (callsIn ms) (callsIn ns) o al h, undisturbed c c (callsIn ms) (callsIn ns) o al h) refl
-        ∙ sym (place-made o ns hn))
+    heard-alike : SameHeard → reaching st (map emptied (callsIn ms)) ≡ reaching st (map emptied (callsIn ns))
+    heard-alike h = reaching-emptied st (callsIn ms) ∙ (h ∙ sym (reaching-emptied st (callsIn ns)))
 
-    pub unmoved-outputs : others (callsIn ms) ≡ others (callsIn ns) → outputsIn (stepsMade (Using c) ms) ≡ outputsIn (stepsMade (Using c) ns)
+    life-alike : noSession c ≡ false → SameHeard → life c (callsIn ms) ≡ life c (callsIn ns)
+    life-alike o h =
+        sym (life-emptied (callsIn ms) c)
+        ∙ (undisturbed c c (map emptied (callsIn ms)) (map emptied (callsIn ns)) o (record { settings = refl; session = refl }) (heard-alike h)
+        ∙ life-emptied (callsIn ns) c)
+
+    ends-alike : noSession c ≡ false → SameHeard → endsWithin c (callsIn ms) ≡ endsWithin c (callsIn ns)
+    ends-alike o h =
+        sym (ends-emptied (callsIn ms) c)
+        ∙ (ends-together c c (map emptied (callsIn ms)) (map emptied (callsIn ns)) o (record { settings = refl; session = refl }) (heard-alike h)
+        ∙ ends-emptied (callsIn ns) c)
+
+    pub undisturbed-life : noSession c ≡ false → SameHeard → lifeIn st (stepsMade (Using c) ms) ≡ lifeIn st (stepsMade (Using c) ns)
+    undisturbed-life o h = life-made o ms hm ∙ (ap (map foldMoment) (life-alike o h) ∙ sym (life-made o ns hn))
+
+    pub undisturbed-end : noSession c ≡ false → SameHeard → placeOfEnd st (stepsMade (Using c) ms) ≡ placeOfEnd st (stepsMade (Using c) ns)
+    undisturbed-end o h = place-made o ms hm ∙ (rw (ends-alike o h, life-alike o h) refl ∙ sym (place-made o ns hn))
+
+    outputs-made : (ls : List CallMade) → AllKeepPromises (Using c) ls → outputsIn (stepsMade (Using c) ls) ≡ outputs c (callsIn ls)
+    outputs-made ls k =
+        ap outputsIn (steps-from-use c (its-own ps c a) ls k)
+        ∙ (outputs-fold (stepsOf (Using c) (callsIn ls)) ∙ outputs-told (callsIn ls) c (use-bytes ps c a))
+
+    pub unmoved-outputs : map emptied (others (callsIn ms)) ≡ map emptied (others (callsIn ns))
+        → outputsIn (stepsMade (Using c) ms) ≡ outputsIn (stepsMade (Using c) ns)
     unmoved-outputs h =
-        made ms hm ∙ (unmoved c c (callsIn ms) (callsIn ns) refl h ∙ sym (made ns hn))
-      where
-        made : (ls : List CallMade) → AllKeepPromises (Using c) ls → outputsIn (stepsMade (Using c) ls) ≡ outputs c (callsIn ls)
-        made ls k =
-            ap outputsIn (steps-from-use c (its-own ps c a) ls k)
-            ∙ (outputs-fold (stepsOf (Using c) (callsIn ls)) ∙ outputs-told (callsIn ls) c (use-bytes ps c a))
+        let e = others-emptied (callsIn ms) ∙ (h ∙ sym (others-emptied (callsIn ns))) in
+        outputs-made ms hm
+        ∙ (sym (outputs-emptied (callsIn ms) c)
+        ∙ (unmoved c c (map emptied (callsIn ms)) (map emptied (callsIn ns)) refl e ∙ (outputs-emptied (callsIn ns) c ∙ sym (outputs-made ns hn))))

@@ -6,7 +6,7 @@ use mathlib.Core.List.{List, [], _∷_, _++_}
 use mathlib.Core.Path.{_≡_}
 use lib.Dec.{eqb}
 use lib.IntN.{ℤ}
-use lib.ListN.{length}
+use lib.ListN.{length, replicate}
 use Rattle.frames.specs.declared.Frame.{Frame}
 use Rattle.messages.specs.Identifier.{partsOf}
 use Rattle.readings.specs.declared.Readings.{Readings}
@@ -29,6 +29,13 @@ reaches st (Receive id s) = fromStation st id
 reaches st (Tick r v t old) = true
 reaches st (Write old) = false
 reaches st (Read s) = isRead (readOf s)
+
+-- a call with its buffer's length and not its contents: of a lent buffer nothing is read
+unfoldable pub emptied : Call → Call
+emptied (Receive id s) = Receive id s
+emptied (Tick r v t old) = Tick r v t (replicate (length old) 0)
+emptied (Write old) = Write (replicate (length old) 0)
+emptied (Read s) = Read s
 
 -- the calls without all else
 unfoldable pub reaching : ℕ → List Call → List Call

@@ -7,7 +7,7 @@ use Prim.Native.Nat.{ℕ, _≤_}
 use mathlib.Core.Logic.{_⊎_}
 use mathlib.Core.Path.{_≡_}
 use mathlib.Core.Bool.{Bool, true, false, cond}
-use mathlib.Core.List.{List, [], _∷_}
+use mathlib.Core.List.{List, [], _∷_, map}
 use lib.Dec.{ltb}
 use lib.IntN.{ℤ}
 use Rattle.messages.specs.Identifier.{partsOf}
@@ -38,7 +38,7 @@ use Rattle.demands.specs.Stops.{whyOf, LeadsTo}
 use Rattle.demands.specs.Ends.{EndsSession, EndsCharge}
 use Rattle.demands.specs.Over.{Opens, Ignored}
 use Rattle.demands.specs.GoneOut.{Watch, gone, eim, ecp, erm, est}
-use Rattle.demands.specs.Apart.{reaches, reaching}
+use Rattle.demands.specs.Apart.{reaches, emptied, reaching}
 use Rattle.demands.specs.Unmoved.{others}
 use Rattle.demands.specs.Told.{lifeIn, placeOfEnd, endsIn, outputsIn}
 use Rattle.demands.specs.Silent.{sendsNothing, ticksIn, longest}
@@ -174,15 +174,17 @@ CrmTaken =
 -- ==== docs/INSURER.md: could the door display, the test laptop or the second station have done the same?
 
 -- "No frame from another address than its station's can reach an open session." Two runs that begin with the same calls
--- from the start, up to an open session; then the same ticks with all that they lend, the same frames of the session's
--- station and the same new settings between the same ticks, and all else different at will. What is told of the
--- session, up to and with its end, is the same: the numbers answered, the charge frames as they stand in the buffers,
--- the session's record. And it ends at the same place in both, or in neither
+-- from the start, up to an open session; then the same ticks with the same readings, tables and buffers of the same
+-- length, whatever these hold before, the same frames of the session's station and the same new settings between the
+-- same ticks, and all else different at will. What is told of the session, up to and with its end, is the same: the
+-- numbers answered, the charge frames as they stand in the buffers, the session's record. And it ends at the same place
+-- in both, or in neither. (An address is the source byte of the frame. Being of any two lists, this is also of any two
+-- corresponding beginnings of longer ones.)
 abbrev pub Undisturbed : Type 0
 Undisturbed =
     (ps : List CallMade) (c : Controller) (ms ns : List CallMade) → AfterCalls ps c → NextCalls c ms → NextCalls c ns
     → noSession c ≡ false
-    → reaching (c .session .station) (callsIn ms) ≡ reaching (c .session .station) (callsIn ns)
+    → map emptied (reaching (c .session .station) (callsIn ms)) ≡ map emptied (reaching (c .session .station) (callsIn ns))
     → (lifeIn (c .session .station) (stepsMade (Using c) ms) ≡ lifeIn (c .session .station) (stepsMade (Using c) ns))
     × (placeOfEnd (c .session .station) (stepsMade (Using c) ms)
     ≡ placeOfEnd (c .session .station) (stepsMade (Using c) ns))
@@ -195,12 +197,12 @@ Unreached =
     → (useThen c m .settings ≡ c .settings) × (useThen c m .session ≡ c .session)
 
 -- "Nor can charge messages reach what others rely on." Two runs that begin with the same calls from the start and then
--- differ only in charge messages: the same broadcasts and cell frames, in their order in the buffers, and the same
--- numbers to queries
+-- differ only in charge messages, and in what the lent buffers hold before: the same broadcasts and cell frames, in
+-- their order in the buffers, and the same numbers to queries
 abbrev pub Unmoved : Type 0
 Unmoved =
     (ps : List CallMade) (c : Controller) (ms ns : List CallMade) → AfterCalls ps c → NextCalls c ms → NextCalls c ns
-    → others (callsIn ms) ≡ others (callsIn ns)
+    → map emptied (others (callsIn ms)) ≡ map emptied (others (callsIn ns))
     → outputsIn (stepsMade (Using c) ms) ≡ outputsIn (stepsMade (Using c) ns)
 
 -- "A silent station cannot hold us": an open session whose station says nothing that it heeds has ended within so many
