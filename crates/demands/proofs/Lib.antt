@@ -9,6 +9,7 @@ pub mod PaperNumbers
 pub mod View
 pub mod Comes
 pub mod Demand1
+pub mod Numbers
 pub mod Addresses
 pub mod Outcomes
 pub mod Messages

@@ -4,6 +4,7 @@ pub mod Sent
 pub mod FrameKinds
 pub mod Calls
 pub mod Refusals
+pub mod Numbers
 pub mod Steps
 pub mod WorkedRows
 pub mod PaperNumbers
