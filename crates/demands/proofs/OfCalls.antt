@@ -23,13 +23,15 @@ use Rattle.session_states.specs.declared.states.State.{State}
 use Rattle.session_states.specs.declared.states.State.the-variants.{Idle, Offered, Unverified, Parameters, Ready, Charging, Stopping, Error}
 use Rattle.session_states.specs.States.{isIdle, isCharging, isStopping, isOffered, isParameters, isReady}
 use Rattle.session.specs.declared.Session.{Session}
-use Rattle.session_states.specs.Limits.{closingLimit}
+use Rattle.session_states.specs.Limits.{closingLimit, firstEcp}
 use Rattle.session_paper_counts.specs.Folds.{foldState, foldCount, folds}
 use Rattle.session_paper_counts.proofs.Fold.{fold-ltb}
 use Rattle.controller.specs.declared.Controller.{Controller}
 use Rattle.controller.specs.declared.Answer.{Answer}
 use Rattle.controller.specs.declared.Ticked.{Ticked}
-use Rattle.controller.specs.Frame.{frameTo}
+use Rattle.session.specs.Message.{appliedOf, messageOf}
+use Rattle.controller.specs.Frame.{frameTo, sessionMoved}
+use Rattle.controller.specs.Tick.{accepted, tickFrames}
 use Rattle.demands.specs.Machine.{Call, Receive, Tick, Box, NoController, Using, paperNext, boxAt, numberSeen, framesSeen}
 use Rattle.demands.specs.InStep.{codeOf, codeBox}
 use Rattle.demands.specs.Calls.{CallMade, DidRead, DidReceive, DidTick, DidWrite, callIn, KeepsPromise, boxThen, inHand, callsIn}
@@ -40,14 +42,16 @@ use Rattle.demands.specs.Says.{Says}
 use Rattle.demands.specs.After.{accepts, after, noSession}
 use Rattle.demands.specs.Apart.{reaches, Alike}
 use Rattle.demands.specs.Over.{Opens, Ignored}
-use Rattle.demands.specs.GoneOut.{Watch, isHere, holds, sends, isOneOf, takes, goesOn, goneAfter, gone, eim, ecp, erm, est}
-use Rattle.demands.specs.Statements.{NextCall, hasGone, WhatEndsASession, EachEndsASession, EstGone, EarlyAcknowledgement, WhatEndsACharge, EachEndsACharge, WhatARefusedTickDoes, WhatATickDoesInIdle, Over, EachOpens, ReplayedAcknowledgement, CvmTaken, CmpTaken, CrmTaken, Unreached}
+use Rattle.demands.specs.GoneOut.{Watch, isHere, holds, sends, isOneOf, takes, goesOn, goneAfter, gone, isReadyYes, eim, ecp, erm, est}
+use Rattle.demands.specs.Statements.{NextCall, hasGone, WhatEndsASession, EachEndsASession, EstGone, EarlyAcknowledgement, WhatEndsACharge, EachEndsACharge, WhatARefusedTickDoes, WhatATickDoesInIdle, Over, EachOpens, ReplayedAcknowledgement, CvmTaken, CmpTaken, CrmTaken, Unreached, EimGone, EcpGone, ErmGone, WhatAMessageDoes, WhatATickSends}
 use Rattle.demands.proofs.Steps.{kind-folds, idle-folds}
 use Rattle.demands.proofs.Demand2.{frame-in-step}
 use Rattle.demands.proofs.StepsMade.{codeStep, Behind, behind, its-own, use-is, steps-from-start}
 use Rattle.demands.proofs.Since.{using-same}
 use Rattle.demands.proofs.Stops as stops
 use Rattle.demands.proofs.Ends as ends
+use Rattle.demands.proofs.Calls.{left-in-the-buffer}
+use Rattle.demands.proofs.Comes.{says-taken}
 use Rattle.demands.proofs.Over as idle
 use Rattle.demands.proofs.GoneOut as out
 use Rattle.demands.proofs.Apart as apart
@@ -69,6 +73,10 @@ offered-folds = kind-folds isOffered (λ p. refl)
 parameters-folds : (st : State) → isParameters (foldState st) ≡ isParameters st
 unfolding isParameters
 parameters-folds = kind-folds isParameters (λ p. refl)
+
+yes-folds : (st : State) → isReadyYes (foldState st) ≡ isReadyYes st
+unfolding isReadyYes
+yes-folds = kind-folds isReadyYes (λ p. refl)
 
 ready-folds : (st : State) → isReady (foldState st) ≡ isReady st
 unfolding isReady
@@ -113,37 +121,86 @@ module _ (w : Watch) (same : (st : State) → w .here (foldState st) ≡ w .here
   gone-made : (ms : List CallMade) (c : Controller) → AfterCalls ms c → hasGone w ms ≡ gone w false (stepsOf NoController (callsIn ms))
   gone-made ms c a = ap (gone w false) (steps-from-start ms (a .kept)) ∙ gone-folds false (stepsOf NoController (callsIn ms))
 
--- ---- the EST, told by Stopping's count
-zero-kept : (st : State) (n : ℕ) → isStopping st ≡ true → ltb 0 (foldCount st n) ≡ ltb 0 n
-unfolding isStopping foldCount
-zero-kept Idle n h = refl
-zero-kept Offered n h = fold-ltb 0 1 4 n (omega arith)
-zero-kept Unverified n h = fold-ltb 0 1 4 n (omega arith)
-zero-kept Parameters n h = fold-ltb 0 6 9 n (omega arith)
-zero-kept (Ready accepted maximum) n h = fold-ltb 0 1 4 n (omega arith)
-zero-kept (Charging p) n h = fold-ltb 0 1 4 n (omega arith)
-zero-kept (Stopping acknowledged est) n h = fold-ltb 0 closingLimit 0 n (omega arith)
-zero-kept Error n h = fold-ltb 0 closingLimit 0 n (omega arith)
+-- ---- what has gone out, told by the state's count
+zero-kept : (st : State) (n : ℕ) → ltb 0 (foldCount st n) ≡ ltb 0 n
+unfolding foldCount
+zero-kept Idle n = refl
+zero-kept Offered n = fold-ltb 0 1 4 n (omega arith)
+zero-kept Unverified n = fold-ltb 0 1 4 n (omega arith)
+zero-kept Parameters n = fold-ltb 0 6 9 n (omega arith)
+zero-kept (Ready accepted maximum) n = fold-ltb 0 1 4 n (omega arith)
+zero-kept (Charging p) n = fold-ltb 0 1 4 n (omega arith)
+zero-kept (Stopping acknowledged est) n = fold-ltb 0 closingLimit 0 n (omega arith)
+zero-kept Error n = fold-ltb 0 closingLimit 0 n (omega arith)
 
-count-kept : (p : Controller) → isStopping (p .session .state) ≡ true → ltb 0 (codeOf p .session .count) ≡ ltb 0 (p .session .count)
-unfolding codeOf folds
-count-kept p h = zero-kept (p .session .state) (p .session .count) h
+ecp-kept : (st : State) (n : ℕ) → isParameters st ≡ true → ltb firstEcp (foldCount st n) ≡ ltb firstEcp n
+unfolding foldCount isParameters
+ecp-kept Idle n h = refl
+ecp-kept Offered n h = absurd (false≢true h)
+ecp-kept Unverified n h = absurd (false≢true h)
+ecp-kept Parameters n h = fold-ltb firstEcp 6 9 n (omega arith)
+ecp-kept (Ready accepted maximum) n h = absurd (false≢true h)
+ecp-kept (Charging p) n h = absurd (false≢true h)
+ecp-kept (Stopping acknowledged est) n h = absurd (false≢true h)
+ecp-kept Error n h = absurd (false≢true h)
 
-stopping-code : (p : Controller) → isStopping (codeOf p .session .state) ≡ isStopping (p .session .state)
-unfolding codeOf folds
-stopping-code p = stopping-folds (p .session .state)
+-- the count of the one in use, and its state, are the fold of those behind it
+module _ (ms : List CallMade) (c : Controller) (a : AfterCalls ms c) where
+  abbrev paper : Controller
+  paper = behind ms c a .paper
+
+  in-state : (f : State → Bool) → ((st : State) → f (foldState st) ≡ f st) → f (c .session .state) ≡ true → f (paper .session .state) ≡ true
+  unfolding codeOf folds
+  in-state f k e = sym (k (paper .session .state)) ∙ (ap (λ (d : Controller). f (d .session .state)) (behind ms c a .code) ∙ e)
+
+  count-behind : c .session .count ≡ foldCount (paper .session .state) (paper .session .count)
+  unfolding codeOf folds
+  count-behind = ap (λ (d : Controller). d .session .count) (sym (behind ms c a .code))
+
+  first-behind : ltb 0 (c .session .count) ≡ ltb 0 (paper .session .count)
+  first-behind = ap (ltb 0) count-behind ∙ zero-kept (paper .session .state) (paper .session .count)
 
 est-same : (st : State) → est .here (foldState st) ≡ est .here st
 unfolding est
 est-same st = stopping-folds st
 
+eim-same : (st : State) → eim .here (foldState st) ≡ eim .here st
+unfolding eim
+eim-same st = offered-folds st
+
+ecp-same : (st : State) → ecp .here (foldState st) ≡ ecp .here st
+unfolding ecp
+ecp-same st = parameters-folds st
+
+erm-same : (st : State) → erm .here (foldState st) ≡ erm .here st
+unfolding erm
+erm-same st = ready-folds st
+
 pub est-gone : EstGone
 est-gone ms c a h =
     let b : Behind ms c = behind ms c a in
-    let q : isStopping (b .paper .session .state) ≡ true =
-    sym (stopping-code (b .paper)) ∙ (ap (λ (z : Controller). isStopping (z .session .state)) (b .code) ∙ h) in
-    ap (λ (z : Controller). ltb 0 (z .session .count)) (sym (b .code))
-    ∙ (count-kept (b .paper) q ∙ (out.est-told (callsIn ms) (b .paper) (b .run) q ∙ sym (gone-made est est-same ms c a)))
+    first-behind ms c a
+    ∙ (out.est-told (callsIn ms) (b .paper) (b .run) (in-state ms c a isStopping stopping-folds h) ∙ sym (gone-made est est-same ms c a))
+
+pub eim-gone : EimGone
+eim-gone ms c a h =
+    let b : Behind ms c = behind ms c a in
+    first-behind ms c a
+    ∙ (out.eim-told (callsIn ms) (b .paper) (b .run) (in-state ms c a isOffered offered-folds h) ∙ sym (gone-made eim eim-same ms c a))
+
+pub erm-gone : ErmGone
+erm-gone ms c a h =
+    let b : Behind ms c = behind ms c a in
+    first-behind ms c a
+    ∙ (out.erm-told (callsIn ms) (b .paper) (b .run) (in-state ms c a isReadyYes yes-folds h) ∙ sym (gone-made erm erm-same ms c a))
+
+pub ecp-gone : EcpGone
+ecp-gone ms c a h g =
+    let b : Behind ms c = behind ms c a in
+    let q = in-state ms c a isParameters parameters-folds h in
+    gone-made ecp ecp-same ms c a
+    ∙ out.ecp-told (callsIn ms) (b .paper) (b .run) q
+    (sym (ecp-kept (b .paper .session .state) (b .paper .session .count) q) ∙ (ap (ltb firstEcp) (sym (count-behind ms c a)) ∙ g))
 
 -- ---- what ends a session, and what ends a charge
 over-use : (ms : List CallMade) (c : Controller) (m : CallMade) → AfterCalls ms c → NextCall c m → noSession (useThen c m) ≡ noSession (after c (callIn m))
@@ -231,52 +288,33 @@ replayed-acknowledgement ms c source id s a u h o says =
     (ap (λ (z : Answer). z .number) e, ap (λ (z : Answer). z .controller) e)
 
 -- ---- what has gone out before a message is taken: of the machine's controller behind, which answers the same
-eim-same : (st : State) → eim .here (foldState st) ≡ eim .here st
-unfolding eim
-eim-same st = offered-folds st
-
-ecp-same : (st : State) → ecp .here (foldState st) ≡ ecp .here st
-unfolding ecp
-ecp-same st = parameters-folds st
-
-erm-same : (st : State) → erm .here (foldState st) ≡ erm .here st
-unfolding erm
-erm-same st = ready-folds st
-
 module _ (ms : List CallMade) (c : Controller) (u : AfterCalls ms c) (id : ℕ) (s : List ℕ) (a : Answer) (h : NextCall c (DidReceive id s a)) where
-  abbrev paper : Controller
-  paper = behind ms c u .paper
-
-  number-behind : a .number ≡ 0 → frameTo paper id s .number ≡ 0
+  number-behind : a .number ≡ 0 → frameTo (paper ms c u) id s .number ≡ 0
   unfolding KeepsPromise
   number-behind z =
-      frame-in-step paper id s .0
+      frame-in-step (paper ms c u) id s .0
       ∙ (ap (λ (d : Controller). frameTo d id s .number) (behind ms c u .code) ∙ (ap (λ (d : Answer). d .number) (sym h) ∙ z))
 
-  says-behind : (m : ChargeMessage) → Says (c .settings) (c .session .station) m id s → Says (paper .settings) (paper .session .station) m id s
+  says-behind : (m : ChargeMessage) → Says (c .settings) (c .session .station) m id s → Says (paper ms c u .settings) (paper ms c u .session .station) m id s
   unfolding codeOf folds
   says-behind m k = subst (λ (d : Controller). Says (d .settings) (d .session .station) m id s) (sym (behind ms c u .code)) k
-
-  here-behind : (f : State → Bool) → ((st : State) → f (foldState st) ≡ f st) → f (c .session .state) ≡ true → f (paper .session .state) ≡ true
-  unfolding codeOf folds
-  here-behind f k e = sym (k (paper .session .state)) ∙ (ap (λ (d : Controller). f (d .session .state)) (behind ms c u .code) ∙ e)
 
 pub cvm-taken : CvmTaken
 cvm-taken ms c b id s a u h says st z =
     gone-made eim eim-same ms c u
-    ∙ out.cvm-taken (callsIn ms) (behind ms c u .paper) (behind ms c u .run) id s b (here-behind ms c u id s a h isOffered offered-folds st)
+    ∙ out.cvm-taken (callsIn ms) (behind ms c u .paper) (behind ms c u .run) id s b (in-state ms c u isOffered offered-folds st)
     (says-behind ms c u id s a h (Cvm b) says) (number-behind ms c u id s a h z)
 
 pub cmp-taken : CmpTaken
 cmp-taken ms c o id s a u h says st z =
     gone-made ecp ecp-same ms c u
-    ∙ out.cmp-taken (callsIn ms) (behind ms c u .paper) (behind ms c u .run) id s o (here-behind ms c u id s a h isParameters parameters-folds st)
+    ∙ out.cmp-taken (callsIn ms) (behind ms c u .paper) (behind ms c u .run) id s o (in-state ms c u isParameters parameters-folds st)
     (says-behind ms c u id s a h (Cmp o) says) (number-behind ms c u id s a h z)
 
 pub crm-taken : CrmTaken
 crm-taken ms c b id s a u h says st z =
     gone-made erm erm-same ms c u
-    ∙ out.crm-taken (callsIn ms) (behind ms c u .paper) (behind ms c u .run) id s b (here-behind ms c u id s a h isReady ready-folds st)
+    ∙ out.crm-taken (callsIn ms) (behind ms c u .paper) (behind ms c u .run) id s b (in-state ms c u isReady ready-folds st)
     (says-behind ms c u id s a h (Crm b) says) (number-behind ms c u id s a h z)
 
 -- ---- what cannot reach a session
@@ -288,3 +326,14 @@ pub unreached : Unreached
 unreached ms c m a h o r =
     let u : Alike (after c (callIn m)) c = apart.unreached c (callIn m) o r in
     (settings-use ms c m a h ∙ u .settings, session-use ms c m a h ∙ (ap folds (u .session) ∙ own-session ms c a))
+
+-- ---- what a message does, and what a tick sends
+pub what-a-message-does : WhatAMessageDoes
+unfolding KeepsPromise sessionMoved messageOf appliedOf
+what-a-message-does ms c source m id s a u h says may =
+    let e = h ∙ says-taken c id s source m says may in (ap (λ (z : Answer). z .number) e, ap (λ (z : Answer). z .controller) e)
+
+pub what-a-tick-sends : WhatATickSends
+unfolding KeepsPromise accepts accepted tickFrames
+what-a-tick-sends ms c r v t old new k a h z =
+    left-in-the-buffer c r v t old new k h ∙ rw (accepted-as c r v t old new k h z)

@@ -1,10 +1,11 @@
 -- Every statement of specs/Statements.antt and its theorem, in the statements' order. Assumes nothing.
-use Rattle.demands.specs.Statements.{WhatEndsASession, EachEndsASession, EstGone, EarlyAcknowledgement, WhatEndsACharge, EachEndsACharge, WhatATickDoes, WhatARefusedTickDoes, WhatATickDoesInIdle, Over, EachOpens, ReplayedAcknowledgement, CvmTaken, CmpTaken, CrmTaken, Undisturbed, Unreached, Unmoved, Within801, EightHundredAreNotEnough, SilentStation, CimHoldsNothing, CrmHoldsNothing, ReachesCharging, FromCimToCharging, NoSooner, EightAreEnough, Demand1, Demand2, AnyCallsCanBeMade, NeverAboveTheMaximum, NoRequestAbove, TheWorkedRows, ThePapersNumbers}
+use Rattle.demands.specs.Statements.{WhatEndsASession, EachEndsASession, EstGone, EimGone, EcpGone, ErmGone, EarlyAcknowledgement, WhatEndsACharge, EachEndsACharge, WhatATickDoes, WhatATickSends, WhatARefusedTickDoes, WhatATickDoesInIdle, Over, EachOpens, ReplayedAcknowledgement, CvmTaken, CmpTaken, CrmTaken, WhatAMessageDoes, Undisturbed, Unreached, Unmoved, Within801, EightHundredAreNotEnough, SilentStation, CimHoldsNothing, CrmHoldsNothing, ReachesCharging, FromCimToCharging, NoSooner, EightAreEnough, Demand1, TheNumbers, Demand2, AnyCallsCanBeMade, NeverAboveTheMaximum, NoRequestAbove, TheWorkedRows, ThePapersNumbers}
 use Rattle.demands.proofs.OfCalls as call
 use Rattle.demands.proofs.TickOfCalls as ticks
+use Rattle.demands.proofs.OfRuns as runs
 use Rattle.demands.proofs.RunsMade as made
 use Rattle.demands.proofs.Promised as promised
-use Rattle.demands.proofs.OfRuns as runs
+use Rattle.demands.proofs.Numbers as table
 use Rattle.demands.proofs.WorkedRows as rows
 use Rattle.demands.proofs.PaperNumbers as numbers
 
@@ -17,6 +18,15 @@ each-ends-a-session = call.each-ends-a-session
 pub est-gone : EstGone
 est-gone = call.est-gone
 
+pub eim-gone : EimGone
+eim-gone = call.eim-gone
+
+pub ecp-gone : EcpGone
+ecp-gone = call.ecp-gone
+
+pub erm-gone : ErmGone
+erm-gone = call.erm-gone
+
 pub early-acknowledgement : EarlyAcknowledgement
 early-acknowledgement = call.early-acknowledgement
 
@@ -28,6 +38,9 @@ each-ends-a-charge = call.each-ends-a-charge
 
 pub what-a-tick-does : WhatATickDoes
 what-a-tick-does = ticks.what-a-tick-does
+
+pub what-a-tick-sends : WhatATickSends
+what-a-tick-sends = call.what-a-tick-sends
 
 pub what-a-refused-tick-does : WhatARefusedTickDoes
 what-a-refused-tick-does = call.what-a-refused-tick-does
@@ -52,6 +65,9 @@ cmp-taken = call.cmp-taken
 
 pub crm-taken : CrmTaken
 crm-taken = call.crm-taken
+
+pub what-a-message-does : WhatAMessageDoes
+what-a-message-does = call.what-a-message-does
 
 pub undisturbed : Undisturbed
 undisturbed = runs.undisturbed
@@ -91,6 +107,9 @@ eight-are-enough = made.eight-are-enough
 
 pub demand-1 : Demand1
 demand-1 = runs.demand-1
+
+pub the-numbers : TheNumbers
+the-numbers = table.the-numbers
 
 pub demand-2 : Demand2
 demand-2 = runs.demand-2

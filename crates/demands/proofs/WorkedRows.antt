@@ -6,11 +6,12 @@ use mathlib.Core.Path.{_≡_, refl, ap, _∙_}
 use mathlib.Core.Bool.{Bool, true, false}
 use mathlib.Core.List.{List, [], _∷_, _++_}
 use borrow.Author.Tests.{lt-leb}
-use lib.IntN.{ℤ}
+use lib.IntN.{ℤ, negsuc}
 use lib.ListN.{length, replicate}
 use Rattle.units.specs.declared.TenthAmps.{TenthAmps}
 use Rattle.messages.specs.Table.{toTarget}
 use Rattle.messages.specs.Identifier.{partsOf}
+use Rattle.frames.specs.Frame.{frameOf}
 use Rattle.settings.specs.declared.Settings.{Settings}
 use Rattle.cells.specs.declared.Cells.{Cells}
 use Rattle.session_states.specs.declared.phases.Phase.{Phase}
@@ -18,8 +19,8 @@ use Rattle.session_states.specs.declared.phases.Phase.the-variants.{Drive, Rest
 use Rattle.session_states.specs.Limits.{driveLimit, restLimit}
 use Rattle.session_states.specs.Phases.{startPhase, driveRules, holdRules, afterRest, phaseAfter}
 use Rattle.session_paper_counts.specs.Literal.{older}
-use Rattle.queries.specs.Answering.{groupFrame, pastEnd, atLast}
-use Rattle.session_frames.specs.Layouts.{ecrFrame, ecrOf}
+use Rattle.queries.specs.Answering.{groupBytes, groupFrame, pastEnd, atLast}
+use Rattle.session_frames.specs.Layouts.{holdVoltage, ecrFrame, ecrOf}
 use Rattle.session_frames.proofs.WorkedRows as layouts
 use Rattle.broadcasts.proofs.WorkedRows as broadcasts
 use Rattle.readings.proofs.WorkedRows as readings
@@ -152,6 +153,24 @@ module _ (own source group : ℕ) (v : List ℕ) (t : List ℤ) (h : own < 256) 
       let e : 0x81 + group ≡ 0xa0 = queries.temperatures-end v t source group n p l in
       pf-sent (toTarget (0x81 + group) 7) source own (omega arith) (omega arith) i h ∙ e
 
+asks-in-rest : (x : Settings) (station cycle time : ℕ) (request : TenthAmps) (c : Cells)
+    → ecrOf x station c (Rest request cycle time) ≡ ecrFrame x station 0 4000 0x02
+unfolding ecrOf
+asks-in-rest x station cycle time request c = refl
+
+asks-in-hold : (x : Settings) (station time : ℕ) (c : Cells)
+    → ecrOf x station c (Hold time) ≡ ecrFrame x station (holdVoltage x c .0) 4000 0x01
+unfolding ecrOf
+asks-in-hold x station time c = refl
+
+first-temperatures : (own source : ℕ) (v : List ℕ)
+    → groupFrame own v
+    (negsuc 49 ∷ negsuc 48 ∷ negsuc 47 ∷ negsuc 46 ∷ negsuc 45 ∷ negsuc 44 ∷ negsuc 43 ∷ negsuc 42 ∷ [])
+    (temperaturesAt source 0)
+    ≡ frameOf (toTarget 0x81 7) source own (0x07 ∷ 0x06 ∷ 0x05 ∷ 0x04 ∷ 0x03 ∷ 0x02 ∷ 0x01 ∷ 0x00 ∷ [])
+unfolding groupFrame groupBytes
+first-temperatures own source v = refl
+
 pub worked-rows : WorkedRows
 worked-rows =
     record {
@@ -172,6 +191,8 @@ worked-rows =
       ecr-400 = asks-400;
       ecr-200 = asks-200;
       ecr-100 = asks-100;
+      ecr-rest = asks-in-rest;
+      ecr-hold = asks-in-hold;
       drives-60 = phases.sixty-drives;
       holds-59 = phases.fifty-nine-holds;
       drives-60-again = phases.sixty-drives-again;
@@ -180,6 +201,7 @@ worked-rows =
       equal-highest = cells.equal-highest;
       equal-lowest = cells.equal-lowest;
       group-32 = queries.group-32;
+      group-81 = first-temperatures;
       voltages-end = voltages-end;
       voltages-sent = queries.voltages-sent;
       temperatures-end = temperatures-end;

@@ -15,7 +15,8 @@ use Rattle.demands.specs.After.{afterAll}
 use Rattle.demands.specs.Calls.{CallMade, DidRead, DidReceive, DidTick, DidWrite, AllKeepPromises, boxLast}
 
 -- the calls `ms` were made one after the other from the start, each with the answer that it gave; each answer keeps its
--- entry point's promise, as each is proved to; and `c` is the controller in use then
+-- entry point's promise, as each is proved to; and `c` is the controller in use then. That a host calls the one that
+-- the call before it left, and takes the controller of an accepted record into use, is its own part (docs/INSURER.md)
 pub record AfterCalls (ms : List CallMade) (c : Controller) : Type 0 where
   pub kept : AllKeepPromises NoController ms
   pub inUse : boxLast NoController ms ≡ Using c

@@ -2,13 +2,13 @@
 -- of the controller, in their order. Each is of the calls that were made and of what they gave: `AfterCalls ms c` is
 -- "after the calls `ms` from the start the controller in use is `c`", `NextCall c m` "the call `m` is made then", and
 -- `useThen c m` is the controller in use after it. The theorems of these types stand in proofs/Statements.antt, one a
--- line; a theorem's name is its statement's, in small letters.
+-- line; a theorem's name is its statement's, in small letters. A message's flag is true where its byte is AA, of CCS
+-- 01: `Cst true` is CST AA, `Crm false` is CRM 00 or FF.
 use Prim.Native.Nat.{ℕ, _≤_}
 use mathlib.Core.Logic.{_⊎_}
 use mathlib.Core.Path.{_≡_}
 use mathlib.Core.Bool.{Bool, true, false, cond}
-use mathlib.Core.List.{List, [], _∷_, map}
-use lib.Dec.{ltb}
+use mathlib.Core.List.{List, [], _∷_, _++_, map}
 use lib.IntN.{ℤ}
 use Rattle.messages.specs.Identifier.{partsOf}
 use Rattle.settings.specs.declared.Settings.{Settings}
@@ -17,27 +17,34 @@ use Rattle.settings.specs.Read.{readOf}
 use Rattle.readings.specs.declared.Readings.{Readings}
 use Rattle.cells.specs.Summaries.{cellsOf}
 use Rattle.charge_messages.specs.declared.Offer.{Offer}
+use Rattle.charge_messages.specs.declared.ChargeMessage.{ChargeMessage}
 use Rattle.charge_messages.specs.declared.ChargeMessage.the-variants.{Cim, Cvm, Cmp, Crm, Cst}
 use Rattle.session_states.specs.declared.phases.Phase.{Phase}
 use Rattle.session_states.specs.declared.states.State.the-variants.{Idle, Parameters, Charging}
 use Rattle.session_states.specs.States.{isCharging, isStopping, isOffered, isParameters, isReady}
+use Rattle.session_by_message.specs.Message.{outcomeNumber, outcomeOf}
 use Rattle.session.specs.Session.{opened}
+use Rattle.session.specs.Message.{sessionAfter}
 use Rattle.refusals.specs.Frame.{listed}
 use Rattle.controller.specs.declared.Controller.{Controller}
 use Rattle.controller.specs.declared.Answer.{Answer}
 use Rattle.controller.specs.declared.Ticked.{Ticked}
+use Rattle.controller.specs.With.{withSession}
+use Rattle.controller.specs.Frame.{mayCharge}
+use Rattle.controller.specs.Tick.{chargeFrames, broadcastFrames, cellFrames}
 use Rattle.demands.specs.Machine.{Call, Read, Receive, Box, NoController, Using, paperNext, run, boxAt}
 use Rattle.demands.specs.InStep.{InStep}
 use Rattle.demands.specs.Calls.{CallMade, DidRead, DidReceive, DidTick, DidWrite, callIn, KeepsPromise, AllKeepPromises, callsIn, allInHand, boxLast}
 use Rattle.demands.specs.Steps.{Step, stepsMade}
 use Rattle.demands.specs.Since.{AfterCalls, useThen, useLast}
 use Rattle.demands.specs.Refusals.{numberGiven, LeftAsItWas}
+use Rattle.demands.specs.Numbers.{firstGiven, linesOf}
 use Rattle.demands.specs.After.{noSession}
 use Rattle.demands.specs.Says.{Says}
 use Rattle.demands.specs.Stops.{whyOf, LeadsTo}
 use Rattle.demands.specs.Ends.{EndsSession, EndsCharge}
 use Rattle.demands.specs.Over.{Opens, Ignored}
-use Rattle.demands.specs.GoneOut.{Watch, gone, eim, ecp, erm, est}
+use Rattle.demands.specs.GoneOut.{Watch, gone, eim, ecp, erm, est, isReadyYes, sinceFirstTick, sinceFirstEcp}
 use Rattle.demands.specs.Apart.{reaches, emptied, reaching}
 use Rattle.demands.specs.Unmoved.{others}
 use Rattle.demands.specs.Told.{lifeIn, placeOfEnd, endsIn, outputsIn}
@@ -57,8 +64,8 @@ NextCall c m = KeepsPromise (Using c) m
 abbrev pub NextCalls : Controller → List CallMade → Type 0
 NextCalls c ms = AllKeepPromises (Using c) ms
 
--- whether the frame watched for is among the frames that the calls have sent since the state began in which the session
--- is now
+-- whether the frame watched for is among the frames that the calls have sent since the state watched began, in which the
+-- session is now (in any other it is not); of ERM AA in Ready: since the last CMP taken
 abbrev pub hasGone : Watch → List CallMade → Bool
 hasGone w ms = gone w false (stepsMade NoController ms)
 
@@ -83,7 +90,23 @@ EachEndsASession =
 abbrev pub EstGone : Type 0
 EstGone =
     (ms : List CallMade) (c : Controller) → AfterCalls ms c
-    → isStopping (c .session .state) ≡ true → ltb 0 (c .session .count) ≡ hasGone est ms
+    → isStopping (c .session .state) ≡ true → sinceFirstTick (c .session .count) ≡ hasGone est ms
+
+-- and likewise of EIM AA in Offered, of ECP in Parameters, and of ERM AA in Ready, where the last CMP was answered yes
+abbrev pub EimGone : Type 0
+EimGone =
+    (ms : List CallMade) (c : Controller) → AfterCalls ms c
+    → isOffered (c .session .state) ≡ true → sinceFirstTick (c .session .count) ≡ hasGone eim ms
+
+abbrev pub EcpGone : Type 0
+EcpGone =
+    (ms : List CallMade) (c : Controller) → AfterCalls ms c
+    → isParameters (c .session .state) ≡ true → sinceFirstEcp (c .session .count) ≡ true → hasGone ecp ms ≡ true
+
+abbrev pub ErmGone : Type 0
+ErmGone =
+    (ms : List CallMade) (c : Controller) → AfterCalls ms c
+    → isReadyYes (c .session .state) ≡ true → sinceFirstTick (c .session .count) ≡ hasGone erm ms
 
 -- "An acknowledgement that comes before our EST is answered 11 and changes nothing"
 abbrev pub EarlyAcknowledgement : Type 0
@@ -113,6 +136,14 @@ WhatATickDoes =
     → AfterCalls ms c → NextCall c (DidTick r v t old new k) → k .number ≡ 0
     → LeadsTo (c .settings) r (cellsOf v t) (c .session .state) (whyOf (c .settings) r (cellsOf v t) (c .session))
     (k .controller .session .state)
+
+-- what it sends: the charge frames of the state that it leads to, then the broadcasts that are due, then the cell
+-- frame, as they stand in the buffer
+abbrev pub WhatATickSends : Type 0
+WhatATickSends =
+    (ms : List CallMade) (c : Controller) (r : Readings) (v : List ℕ) (t : List ℤ) (old new : List ℕ) (k : Ticked)
+    → AfterCalls ms c → NextCall c (DidTick r v t old new k) → k .number ≡ 0
+    → framesWritten (k .bytes) new ≡ chargeFrames c r v t ++ (broadcastFrames c r v t ++ cellFrames c r v t)
 
 -- "A refused tick changes nothing"
 abbrev pub WhatARefusedTickDoes : Type 0
@@ -170,6 +201,17 @@ CrmTaken =
     (ms : List CallMade) (c : Controller) (b : Bool) (id : ℕ) (s : List ℕ) (a : Answer) → AfterCalls ms c
     → NextCall c (DidReceive id s a) → Says (c .settings) (c .session .station) (Crm b) id s
     → isReady (c .session .state) ≡ true → a .number ≡ 0 → hasGone erm ms ≡ true
+
+-- "What each message does in each state, when it comes from the session's own station (in Idle: from a station of the
+-- settings' list)": the number and the session's record are those of the table `outcomeOf`, and nothing else changes
+abbrev pub WhatAMessageDoes : Type 0
+WhatAMessageDoes =
+    (ms : List CallMade) (c : Controller) (source : ℕ) (m : ChargeMessage) (id : ℕ) (s : List ℕ) (a : Answer)
+    → AfterCalls ms c → NextCall c (DidReceive id s a) → Says (c .settings) source m id s → mayCharge c source ≡ true
+    → (a .number ≡ outcomeNumber (outcomeOf (c .settings) (c .session .state) (c .session .count) m))
+    × (a .controller
+    ≡ withSession c
+    (sessionAfter source (c .session) (outcomeOf (c .settings) (c .session .state) (c .session .count) m)))
 
 -- ==== docs/INSURER.md: could the door display, the test laptop or the second station have done the same?
 
@@ -283,9 +325,15 @@ EightAreEnough = ChargesAfter 8
 abbrev pub Demand1 : Type 0
 Demand1 = (b : Box) (m : CallMade) → KeepsPromise b m → (numberGiven m ≡ 0 → ⊥) → LeftAsItWas b m
 
+-- "a refusal carries its number": each call, of any controller and any input, is answered by the first number of the
+-- paper's table whose test holds, and by 0 where none does
+abbrev pub TheNumbers : Type 0
+TheNumbers = (b : Box) (m : CallMade) → KeepsPromise b m → numberGiven m ≡ firstGiven (linesOf b (callIn m))
+
 -- Demand 2: "it does what the paper says, every frame sent and every state entered, over any sequence of calls from the
 -- start": what the calls gave is what the paper's machine gives, and the controller in use differs from the machine's
--- only in how counts are kept
+-- only in how counts are kept. The machine's rules are the definitions that the promises name, read against the paper;
+-- what it has of its own are counts that grow for ever, and any order and number of calls
 abbrev pub Demand2 : Type 0
 Demand2 =
     (ms : List CallMade) → AllKeepPromises NoController ms

@@ -110,6 +110,11 @@ pub record WorkedRows : Type 0 where
       → ecrOf x station c (Drive (tenths 200) cycle time) ≡ ecrFrame x station 0 3800 0x02
   pub ecr-100 : (x : Settings) (station cycle time : ℕ) (c : Cells)
       → ecrOf x station c (Drive (tenths 100) cycle time) ≡ ecrFrame x station 0 3900 0x02
+  -- in Rest 0 A, raw 4000, in the same mode; in Hold mode 01 with Hold's voltage and raw current 4000
+  pub ecr-rest : (x : Settings) (station cycle time : ℕ) (request : TenthAmps) (c : Cells)
+      → ecrOf x station c (Rest request cycle time) ≡ ecrFrame x station 0 4000 0x02
+  pub ecr-hold : (x : Settings) (station time : ℕ) (c : Cells)
+      → ecrOf x station c (Hold time) ≡ ecrFrame x station (holdVoltage x c .0) 4000 0x01
   -- R 60 drives, 59 holds: at the start and after a Rest
   pub drives-60 : startPhase (tenths 400) (tenths 60) ≡ Drive (tenths 60) 1 0
   pub holds-59 : startPhase (tenths 400) (tenths 59) ≡ Hold 0
@@ -124,6 +129,12 @@ pub record WorkedRows : Type 0 where
   pub group-32 : (a b c d own source : ℕ) (t : List ℤ)
       → groupFrame own (a ∷ b ∷ c ∷ d ∷ 331 ∷ 332 ∷ []) t (voltagesAt source 1)
       ≡ frameOf (toTarget 0x32 7) source own (0x00 ∷ 0x00 ∷ 0x00 ∷ 0x00 ∷ 0x4c ∷ 0x01 ∷ 0x4b ∷ 0x01 ∷ [])
+  -- and of temperatures likewise, the first cell last: -50 F to -43 F, sent as 0 to 7, are group PF 81
+  pub group-81 : (own source : ℕ) (v : List ℕ)
+      → groupFrame own v
+      (negsuc 49 ∷ negsuc 48 ∷ negsuc 47 ∷ negsuc 46 ∷ negsuc 45 ∷ negsuc 44 ∷ negsuc 43 ∷ negsuc 42 ∷ [])
+      (temperaturesAt source 0)
+      ≡ frameOf (toTarget 0x81 7) source own (0x07 ∷ 0x06 ∷ 0x05 ∷ 0x04 ∷ 0x03 ∷ 0x02 ∷ 0x01 ∷ 0x00 ∷ [])
   -- 255 cells end at PF 70 and A0: the frame of the group that is sent last has that PF in its identifier, and there is
   -- one
   pub voltages-end : (own source group : ℕ) (v : List ℕ) (t : List ℤ) → own < 256 → source < 256 → length v ≡ 255
