@@ -73,18 +73,21 @@ below-one : (source : ℕ) (kind : Kind) → source < 256 → Below (freshQuery 
 unfolding Below
 below-one source kind h = (h, tt)
 
-below-asked : (q : Queries) (source : ℕ) (kind : Kind) → source < 256 → Below (waiting q) → Below (waiting (queuedOf q source kind .queries))
+below-asked : (q : Queries) (source : ℕ) (kind : Kind) → source < 256 → Below (waiting q)
+    → Below (waiting (queuedOf q source kind .queries))
 below-asked q source kind h k =
     subst Below (sym (asked-waiting q source kind))
     (below-if (eqb (askNumber source kind (waiting q)) 0) _ _ (below-append (waiting q) _ k (below-one source kind h)) k)
 
-below-ticked : (q : Queries) (v : List ℕ) (t : List ℤ) → Below (waiting q) → Below (waiting (queriesOf (waitingAfter v t (waiting q))))
+below-ticked : (q : Queries) (v : List ℕ) (t : List ℤ) → Below (waiting q)
+    → Below (waiting (queriesOf (waitingAfter v t (waiting q))))
 below-ticked q v t h =
     subst Below (sym (waiting-held (waitingAfter v t (waiting q)) (omega (arith, waiting-at-most q, later-at-most v t (waiting q)))))
     (below-later v t (waiting q) h)
 
 -- ---- the station
-message-byte : (source : ℕ) (s : Session) (o : Outcome) → source < 256 → s .station < 256 → sessionAfter source s o .station < 256
+message-byte : (source : ℕ) (s : Session) (o : Outcome) → source < 256 → s .station < 256
+    → sessionAfter source s o .station < 256
 unfolding sessionAfter
 message-byte source s outcome.Refuse h k = k
 message-byte source s outcome.OutOfStep h k = k
@@ -112,7 +115,8 @@ in-station s (Charging p) = refl
 in-station s (Stopping acknowledged est) = refl
 in-station s Error = refl
 
-tick-byte : (x : Settings) (r : Readings) (c : Cells) (s : Session) → s .station < 256 → literalTick x r c s .station < 256
+tick-byte : (x : Settings) (r : Readings) (c : Cells) (s : Session) → s .station < 256
+    → literalTick x r c s .station < 256
 unfolding literalTick literalAdvance
 tick-byte x r c s h =
     let u = turnedBy s (turnIn x r c s) in rw (in-station u (u .state)) (turn-byte s (turnIn x r c s) h)
@@ -122,12 +126,14 @@ unfolding partsOf
 source-byte id = omega arith
 
 -- ---- any call
-charge-bytes : (c : Controller) (id : ℕ) (s : List ℕ) (a : Answer) → Comes c id s a → c .session .station < 256 → a .controller .session .station < 256
+charge-bytes : (c : Controller) (id : ℕ) (s : List ℕ) (a : Answer) → Comes c id s a → c .session .station < 256
+    → a .controller .session .station < 256
 unfolding sessionMoved messageOf appliedOf
 charge-bytes c id s a (Left u e n) h = rw e h
 charge-bytes c id s a (Took m says may e) h = rw e (message-byte (partsOf id .source) (c .session) _ (source-byte id) h)
 
-by-case : (c : Controller) (id : ℕ) (s : List ℕ) → Bytes c → View (c .settings .own) id s → Below (waiting (frameTo c id s .controller .queries))
+by-case : (c : Controller) (id : ℕ) (s : List ℕ) → Bytes c → View (c .settings .own) id s
+    → Below (waiting (frameTo c id s .controller .queries))
 unfolding queriesMoved sessionMoved
 by-case c id s b (Refused n h each) = rw (each c refl) (b .sources)
 by-case c id s b (Asks q h each) = rw (each c refl) (below-asked (c .queries) (partsOf id .source) (kindOf q) (source-byte id) (b .sources))

@@ -42,7 +42,8 @@ use Rattle.demands.proofs.Comes.{Comes, Left, Took, came, kept-settings
 
 -- ---- a frame that cannot reach the session leaves it as it was
 -- by what it says a source is the frame's source, and the frame is no query
-pub says-from : (x : Settings) (st : ℕ) (m : ChargeMessage) (id : ℕ) (s : List ℕ) → Says x st m id s → fromStation st id ≡ true
+pub says-from : (x : Settings) (st : ℕ) (m : ChargeMessage) (id : ℕ) (s : List ℕ) → Says x st m id s
+    → fromStation st id ≡ true
 unfolding fromStation isQuery queryIn
 says-from x st m id s h = rw (h .source, eq-eqb st st refl, pf-is (x .own) id s (message.Charge (chargeOf m)) (h .checks))
 
@@ -102,7 +103,8 @@ module _ (c : Controller) (o : noSession c ≡ false) where
       (subst (λ (z : ℕ). Kept z (messageOf (c .settings) (partsOf id .source) (c .session) m .session)) k
       (kept-after (partsOf id .source) (c .session) _ (sym k))) h
 
-  kept-choice : (st : ℕ) (t : Bool) (d : Controller) → st ≡ c .session .station → Kept st (d .session) → Kept st (cond t d c .session)
+  kept-choice : (st : ℕ) (t : Bool) (d : Controller) → st ≡ c .session .station → Kept st (d .session)
+      → Kept st (cond t d c .session)
   kept-choice st true d e k = k
   kept-choice st false d e k = λ h. sym e
 
@@ -118,7 +120,8 @@ module _ (c : Controller) (o : noSession c ≡ false) where
   kept-call (Write old) = λ h. refl
   kept-call (Read s) = kept-read (readOf s)
 
-pub kept-open : (c : Controller) (e : Call) → noSession c ≡ false → noSession (after c e) ≡ false → after c e .session .station ≡ c .session .station
+pub kept-open : (c : Controller) (e : Call) → noSession c ≡ false → noSession (after c e) ≡ false
+    → after c e .session .station ≡ c .session .station
 unfolding noSession
 kept-open c e o h = kept-call c o e h
 
@@ -140,7 +143,8 @@ record AlikeAfter (asks : Bool) (a b : Answer) : Type 0 where
 module _ (c d : Controller) (a : Alike c d) where
   -- by the cases of the view: refused; a query, which moves the queries alone; a charge message, which goes by settings and
   -- session
-  by-case : (id : ℕ) (l : List ℕ) → View (c .settings .own) id l → AlikeAfter (isQuery id) (frameTo c id l) (frameTo d id l)
+  by-case : (id : ℕ) (l : List ℕ) → View (c .settings .own) id l
+      → AlikeAfter (isQuery id) (frameTo c id l) (frameTo d id l)
   unfolding sessionMoved queriesMoved
   by-case id l (Refused n h each) =
       rw (each c refl, each d (rw (a .settings))) (record { alike = a; number = λ f. refl })
@@ -199,7 +203,8 @@ unfolding isRead readInto
 unread (read.Read x) c h = absurd (false≢true (sym h))
 unread (read.Refused n) c h = record { settings = refl; session = refl }
 
-pub unreached : (c : Controller) (e : Call) → noSession c ≡ false → reaches (c .session .station) e ≡ false → Alike (after c e) c
+pub unreached : (c : Controller) (e : Call) → noSession c ≡ false → reaches (c .session .station) e ≡ false
+    → Alike (after c e) c
 unfolding after reaches
 unreached c (Receive id s) o h = record { settings = kept-settings c id s; session = unreached-stays c id s (frameTo c id s) (came c id s) o h }
 unreached c (Tick r v t old) o h = absurd (false≢true (sym h))
@@ -226,7 +231,8 @@ pub same-noSession : (c d : Controller) → Alike c d → noSession c ≡ noSess
 unfolding noSession
 same-noSession c d a = rw (a .session)
 
-after-both : (c d : Controller) (es fs : List Call) → Alike c d → (noSession c ≡ false → life c es ≡ life d fs) → rest c es ≡ rest d fs
+after-both : (c d : Controller) (es fs : List Call) → Alike c d → (noSession c ≡ false → life c es ≡ life d fs)
+    → rest c es ≡ rest d fs
 unfolding rest
 after-both c d es fs a f =
     both (noSession c) refl ∙ ap (λ (t : Bool). cond t [] (life d fs)) (same-noSession c d a)
@@ -244,8 +250,10 @@ then c d e a b = record { settings = a .settings ∙ b .settings; session = a .s
 Alone : ℕ → List Call → Type 0
 Alone st es = (c d : Controller) → Alike c d → c .session .station ≡ st → noSession c ≡ false → life c es ≡ life d (reaching st es)
 
-one-more : (st : ℕ) (e : Call) (es : List Call) → Alone st es → (c d : Controller) → Alike c d → c .session .station ≡ st → noSession c ≡ false
-    → (t : Bool) → reaches st e ≡ t → moments c e ++ rest (after c e) es ≡ life d (cond t (e ∷ reaching st es) (reaching st es))
+one-more : (st : ℕ) (e : Call) (es : List Call) → Alone st es → (c d : Controller) → Alike c d
+    → c .session .station ≡ st → noSession c ≡ false
+    → (t : Bool) → reaches st e ≡ t
+    → moments c e ++ rest (after c e) es ≡ life d (cond t (e ∷ reaching st es) (reaching st es))
 unfolding Alone life rest
 one-more st e es ih c d a k o true h =
     ap (λ (m : List Moment). m ++ rest (after c e) es) (same-moments c d a e)

@@ -22,7 +22,8 @@ use Rattle.demands.proofs.Sent.{tick-eight, frames-written, none-writte
 
 -- what a tick has left in the buffer, read off its bytes, is what it sent
 pub left-in-the-buffer : (c : Controller) (r : Readings) (v : List ℕ) (t : List ℤ) (old new : List ℕ) (k : Ticked)
-    → TickIs c r v t old new k → framesWritten (k .bytes) new ≡ cond (accepted c r v t (length old)) (tickFrames c r v t) []
+    → TickIs c r v t old new k
+    → framesWritten (k .bytes) new ≡ cond (accepted c r v t (length old)) (tickFrames c r v t) []
 left-in-the-buffer c r v t old new k h = rw (h .bytes, h .later) (either (accepted c r v t (length old)))
   where
     fs : List Frame

@@ -74,7 +74,8 @@ pub record Refusal (c : Controller) (a : Answer) : Type 0 where
   pub number : a .number ≡ 0 → ⊥
 
 pub data Comes (c : Controller) (id : ℕ) (s : List ℕ) (a : Answer) : Type 0 where
-  Left : a .controller .settings ≡ c .settings → a .controller .session ≡ c .session → (isCharge id ≡ true → Refusal c a) → Comes c id s a
+  Left : a .controller .settings ≡ c .settings → a .controller .session ≡ c .session
+      → (isCharge id ≡ true → Refusal c a) → Comes c id s a
   Took : (m : ChargeMessage) → Says (c .settings) (partsOf id .source) m id s → mayCharge c (partsOf id .source) ≡ true
       → a ≡ sessionMoved c (messageOf (c .settings) (partsOf id .source) (c .session) m)
       → Comes c id s a
@@ -92,7 +93,8 @@ module _ (c : Controller) (id : ℕ) (s : List ℕ) where
   charge-says k m p e = let q : chargeOf m ≡ k = content-is k s (content.Allowed m) e in record { checks = rw q p; source = refl; content = rw q e }
 
   -- 9, 10, or taken
-  charge-comes : (k : Charge) → messageIn (c .settings .own) id s ≡ recognized.As (message.Charge k) → (t : Bool) → mayCharge c source ≡ t
+  charge-comes : (k : Charge) → messageIn (c .settings .own) id s ≡ recognized.As (message.Charge k) → (t : Bool)
+      → mayCharge c source ≡ t
       → (m : Content) → contentOf k s ≡ m
       → Comes c id s (sessionMoved c (cond t (contentOn (c .settings) source (c .session) m) (record { number = 9; session = c .session })))
   unfolding sessionMoved contentOn ContentOf
@@ -128,7 +130,8 @@ module _ (c : Controller) (id : ℕ) (s : List ℕ) where
     says-refused = said false
 
 -- a frame never changes the settings
-settings-kept : (c : Controller) (id : ℕ) (s : List ℕ) (a : Answer) → Comes c id s a → a .controller .settings ≡ c .settings
+settings-kept : (c : Controller) (id : ℕ) (s : List ℕ) (a : Answer) → Comes c id s a
+    → a .controller .settings ≡ c .settings
 unfolding sessionMoved
 settings-kept c id s a (Left e f g) = e
 settings-kept c id s a (Took m says may k) = ap (λ (z : Answer). z .controller .settings) k
@@ -137,7 +140,8 @@ pub kept-settings : (c : Controller) (id : ℕ) (s : List ℕ) → frameTo c id 
 kept-settings c id s = settings-kept c id s (frameTo c id s) (came c id s)
 
 -- in an open session a charge message goes further only from the session's station
-pub station-is : (c : Controller) (source : ℕ) → isIdle (c .session .state) ≡ false → mayCharge c source ≡ true → source ≡ c .session .station
+pub station-is : (c : Controller) (source : ℕ) → isIdle (c .session .state) ≡ false → mayCharge c source ≡ true
+    → source ≡ c .session .station
 unfolding mayCharge
 station-is c source h e =
     eqb-true source (c .session .station)

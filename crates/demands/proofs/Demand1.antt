@@ -194,7 +194,8 @@ cim-told pf = either (eqb pf 0x26) (recognizedOf-rest pf)
         same cimIn (eqb n 0x01) refl (same cimIn (eqb n 0x08) refl (same cimIn (eqb n 0x0a) refl (same cimIn (eqb n 0x12) refl
         (same cimIn (eqb n 0x16) refl (same cimIn (eqb n 0x1f) refl (same cimIn (eqb n 0x1b) refl (same cimIn (eqb n 0x1c) refl refl)))))))
 
-    either : (b : Bool) → cimIn (firstWith pf others) ≡ false → cimIn (cond b (recognized.As (message.Charge charge.Cim)) (firstWith pf others)) ≡ b
+    either : (b : Bool) → cimIn (firstWith pf others) ≡ false
+        → cimIn (cond b (recognized.As (message.Charge charge.Cim)) (firstWith pf others)) ≡ b
     either true h = refl
     either false h = h
 
@@ -211,23 +212,27 @@ module _ (c : Controller) (id : ℕ) (s : List ℕ) where
   unfolding leftBy
   plainly n h k = rw (ne-eqb n 11 h)
 
-  eleven : (b : Bool) → b ≡ isCimFrame id → (n : ℕ) (t : Session) → n ≡ 11 → t ≡ cond (isBeforeCharging (c .session .state) && not b) (withSilence (c .session) 0) (c .session)
+  eleven : (b : Bool) → b ≡ isCimFrame id → (n : ℕ) (t : Session) → n ≡ 11
+      → t ≡ cond (isBeforeCharging (c .session .state) && not b) (withSilence (c .session) 0) (c .session)
       → withSession c t ≡ leftBy n c (Receive id s)
   unfolding leftBy
   eleven b e n t h k = rw (h, k, ← e) (either (isBeforeCharging (c .session .state) && not b))
     where
-      either : (f : Bool) → withSession c (cond f (withSilence (c .session) 0) (c .session)) ≡ cond f (silenceAtZero c) c
+      either : (f : Bool)
+          → withSession c (cond f (withSilence (c .session) 0) (c .session)) ≡ cond f (silenceAtZero c) c
       either true = refl
       either false = refl
 
-  message-keeps : (m : ChargeMessage) → isCim m ≡ isCimFrame id → Keeps (sessionMoved c (messageOf (c .settings) source (c .session) m))
+  message-keeps : (m : ChargeMessage) → isCim m ≡ isCimFrame id
+      → Keeps (sessionMoved c (messageOf (c .settings) source (c .session) m))
   unfolding sessionMoved messageOf appliedOf
   message-keeps m e k =
       let o = outcomeOf (c .settings) (c .session .state) (c .session .count) m in
       let l = left-session source (c .session) (resets (c .session .state) m) o (told (c .settings) (c .session .count) (c .session .state) m) k in
       eleven (isCim m) e (outcomeNumber o) _ (l .0) (l .1)
 
-  content-keeps : (k : Charge) → messageIn (c .settings .own) id s ≡ recognized.As (message.Charge k) → (m : Content) → contentOf k s ≡ m → Keeps (contentTaken c source m)
+  content-keeps : (k : Charge) → messageIn (c .settings .own) id s ≡ recognized.As (message.Charge k) → (m : Content)
+      → contentOf k s ≡ m → Keeps (contentTaken c source m)
   unfolding contentTaken ContentOf isCimFrame
   content-keeps k p (content.Allowed m) e =
       let q : chargeOf m ≡ k = content-is k s (content.Allowed m) e in
@@ -267,16 +272,19 @@ module _ (c : Controller) (id : ℕ) (s : List ℕ) where
 not-zero : (n : ℕ) → (n ≡ 0 → ⊥) → eqb n 0 ≡ false
 not-zero n h = ne-eqb n 0 h
 
-refused-tick : (c : Controller) (r : Readings) (v : List ℕ) (t : List ℤ) (old new : List ℕ) (k : Ticked) → TickIs c r v t old new k
+refused-tick : (c : Controller) (r : Readings) (v : List ℕ) (t : List ℤ) (old new : List ℕ) (k : Ticked)
+    → TickIs c r v t old new k
     → (k .number ≡ 0 → ⊥) → accepted c r v t (length old) ≡ false
 unfolding accepted
 refused-tick c r v t old new k h n = rw (← h .number) (not-zero (k .number) n)
 
-refused-write : (x : Settings) (old new : List ℕ) (w : Written) → Wrote x old new w → (w .number ≡ 0 → ⊥) → eqb (writeNumber x old) 0 ≡ false
+refused-write : (x : Settings) (old new : List ℕ) (w : Written) → Wrote x old new w → (w .number ≡ 0 → ⊥)
+    → eqb (writeNumber x old) 0 ≡ false
 unfolding writtenOf
 refused-write x old new w h n = not-zero (writeNumber x old) (λ z. n (ap (λ (y : Written). y .number) (h .answer) ∙ z))
 
-refused-read : (b : Box) (s : List ℕ) (a : Start) → (startNumber a ≡ 0 → ⊥) → started a b ≡ boxLeftBy (startNumber a) b (Read s)
+refused-read : (b : Box) (s : List ℕ) (a : Start) → (startNumber a ≡ 0 → ⊥)
+    → started a b ≡ boxLeftBy (startNumber a) b (Read s)
 unfolding started boxLeftBy leftBy
 refused-read b s (Made c) n = absurd (n refl)
 refused-read NoController s (Refused k) n = refl

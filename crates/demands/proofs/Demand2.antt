@@ -97,7 +97,8 @@ unfolding started startWith codeBox
 with-in-step (read.Read x) b = ap Using (fresh-in-step x)
 with-in-step (read.Refused n) b = refl
 
-ticked : (t : Bool) (c d : Controller) {c' d' : Controller} → codeOf c ≡ c' → codeOf d ≡ d' → codeBox (Using (cond t c d)) ≡ Using (cond t c' d')
+ticked : (t : Bool) (c d : Controller) {c' d' : Controller} → codeOf c ≡ c' → codeOf d ≡ d'
+    → codeBox (Using (cond t c d)) ≡ Using (cond t c' d')
 unfolding codeBox
 ticked true c d h k = ap Using h
 ticked false c d h k = ap Using k
@@ -114,7 +115,8 @@ after-in-step (Using c) (Tick r v t old) = ticked (eqb (tickNumber r v t (length
 after-in-step NoController (Write old) = refl
 after-in-step (Using c) (Write old) = refl
 
-write-in-step : (c : Controller) (old : List ℕ) → seenOf paperNext (Using c) (Write old) ≡ seenOf tickNext (Using (codeOf c)) (Write old)
+write-in-step : (c : Controller) (old : List ℕ)
+    → seenOf paperNext (Using c) (Write old) ≡ seenOf tickNext (Using (codeOf c)) (Write old)
 unfolding seenOf codeOf
 write-in-step c old = refl
 
@@ -141,6 +143,7 @@ box-from b [] = refl
 box-from b (k ∷ ks) = rw (← after-in-step b k) (box-from (boxAfter paperNext b k) ks)
 
 -- THE DEMAND
-pub demand-2 : (ks : List Call) → (run paperNext NoController ks ≡ run tickNext NoController ks) × InStep (boxAt paperNext NoController ks) (boxAt tickNext NoController ks)
+pub demand-2 : (ks : List Call)
+    → (run paperNext NoController ks ≡ run tickNext NoController ks) × InStep (boxAt paperNext NoController ks) (boxAt tickNext NoController ks)
 unfolding codeBox
 demand-2 ks = (run-from NoController ks, box-from NoController ks)

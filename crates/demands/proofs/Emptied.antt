@@ -13,7 +13,8 @@ use Rattle.demands.specs.After.{accepts, after, endsWithin}
 use Rattle.demands.specs.Apart.{reaches, emptied, reaching, sentAt, moments, life}
 use Rattle.demands.specs.Unmoved.{isChargeMessage, others, besideAt, outputAt, outputs}
 
-accepts-emptied : (r : Readings) (v : List ℕ) (t : List ℤ) (old : List ℕ) → accepts r v t (replicate (length old) 0) ≡ accepts r v t old
+accepts-emptied : (r : Readings) (v : List ℕ) (t : List ℤ) (old : List ℕ)
+    → accepts r v t (replicate (length old) 0) ≡ accepts r v t old
 unfolding accepts
 accepts-emptied r v t old = rw (length-replicate {A = ℕ} (length old) 0)
 
@@ -55,7 +56,8 @@ charge-emptied (Write old) = refl
 charge-emptied (Read s) = refl
 
 -- ---- any list of them
-map-if : (b : Bool) (k : Call) (ks : List Call) → cond b (emptied k ∷ map emptied ks) (map emptied ks) ≡ map emptied (cond b (k ∷ ks) ks)
+map-if : (b : Bool) (k : Call) (ks : List Call)
+    → cond b (emptied k ∷ map emptied ks) (map emptied ks) ≡ map emptied (cond b (k ∷ ks) ks)
 map-if true k ks = refl
 map-if false k ks = refl
 
@@ -64,7 +66,8 @@ unfolding reaching
 reaching-emptied st [] = refl
 reaching-emptied st (k ∷ ks) = rw (reaches-emptied st k, reaching-emptied st ks) (map-if (reaches st k) k (reaching st ks))
 
-if-map : (b : Bool) (k : Call) (ks : List Call) → cond b (map emptied ks) (emptied k ∷ map emptied ks) ≡ map emptied (cond b ks (k ∷ ks))
+if-map : (b : Bool) (k : Call) (ks : List Call)
+    → cond b (map emptied ks) (emptied k ∷ map emptied ks) ≡ map emptied (cond b ks (k ∷ ks))
 if-map true k ks = refl
 if-map false k ks = refl
 

@@ -48,7 +48,8 @@ stopping-open (Stopping k e) h = refl
 stopping-open Error h = refl
 
 -- a CST AA in Stopping at count 0
-early-in : (x : Settings) (n : ℕ) (st : State) → isStopping st ≡ true → ltb 0 n ≡ false → outcomeOf x st n (Cst true) ≡ Refuse
+early-in : (x : Settings) (n : ℕ) (st : State) → isStopping st ≡ true → ltb 0 n ≡ false
+    → outcomeOf x st n (Cst true) ≡ Refuse
 unfolding isStopping outcomeOf inStopping
 early-in x n Idle h g = absurd (false≢true h)
 early-in x n Offered h g = absurd (false≢true h)
@@ -66,11 +67,13 @@ refuses-early c g h = rw (early-in (c .settings) (c .session .count) (c .session
 
 -- in an open session, exactly which messages end it, and exactly which end its charge
 module _ (x : Settings) (source : ℕ) (s : Session) (m : ChargeMessage) where
-  pub which-message-ends-a-session : isIdle (s .state) ≡ false → isIdle (messageOf x source s m .session .state) ≡ messageEnds (s .state) (s .count) m
+  pub which-message-ends-a-session : isIdle (s .state) ≡ false
+      → isIdle (messageOf x source s m .session .state) ≡ messageEnds (s .state) (s .count) m
   unfolding messageOf appliedOf
   which-message-ends-a-session = ends-message x source s (s .state) m
 
-  pub which-message-ends-a-charge : isCharging (s .state) ≡ true → isCharging (messageOf x source s m .session .state) ≡ not (messageLeaves m)
+  pub which-message-ends-a-charge : isCharging (s .state) ≡ true
+      → isCharging (messageOf x source s m .session .state) ≡ not (messageLeaves m)
   unfolding messageOf appliedOf
   which-message-ends-a-charge = leaves-message x source s (s .state) m
 
@@ -85,7 +88,8 @@ module _ (c : Controller) (id : ℕ) (s : List ℕ) where
   its : (m : ChargeMessage) (source : ℕ) → source ≡ c .session .station → Says (c .settings) source m id s → Its m
   its m source e says = subst (λ (z : ℕ). Says (c .settings) z m id s) e says
 
-  ended-by : (m : ChargeMessage) → Its m → messageEnds (c .session .state) (c .session .count) m ≡ true → EndsSession gone-by-count c (Receive id s)
+  ended-by : (m : ChargeMessage) → Its m → messageEnds (c .session .state) (c .session .count) m ≡ true
+      → EndsSession gone-by-count c (Receive id s)
   unfolding messageEnds
   ended-by Cim h e = absurd (false≢true e)
   ended-by (Cvm v) h e = absurd (false≢true e)
@@ -108,7 +112,8 @@ module _ (c : Controller) (id : ℕ) (s : List ℕ) where
   stopped-by (Cst v) h e = AtCst h
   stopped-by Cem h e = AtCem h
 
-  ended-came : (a : Answer) → Comes c id s a → isIdle (c .session .state) ≡ false → isIdle (a .controller .session .state) ≡ true
+  ended-came : (a : Answer) → Comes c id s a → isIdle (c .session .state) ≡ false
+      → isIdle (a .controller .session .state) ≡ true
       → EndsSession gone-by-count c (Receive id s)
   unfolding sessionMoved messageOf appliedOf
   ended-came a (Left u k n) h e = absurd (false≢true (sym h ∙ (ap (λ (t : Session). isIdle (t .state)) (sym k) ∙ e)))
@@ -117,7 +122,8 @@ module _ (c : Controller) (id : ℕ) (s : List ℕ) where
       (sym (which-message-ends-a-session (c .settings) (partsOf id .source) (c .session) m h)
       ∙ (ap (λ (t : Answer). isIdle (t .controller .session .state)) (sym k) ∙ e))
 
-  stopped-came : (a : Answer) → Comes c id s a → isCharging (c .session .state) ≡ true → isCharging (a .controller .session .state) ≡ false
+  stopped-came : (a : Answer) → Comes c id s a → isCharging (c .session .state) ≡ true
+      → isCharging (a .controller .session .state) ≡ false
       → EndsCharge c (Receive id s)
   unfolding sessionMoved messageOf appliedOf
   stopped-came a (Left u k n) h e = absurd (false≢true (sym e ∙ (ap (λ (t : Session). isCharging (t .state)) k ∙ h)))
@@ -126,7 +132,8 @@ module _ (c : Controller) (id : ℕ) (s : List ℕ) where
       ((sym e ∙ ap (λ (t : Answer). isCharging (t .controller .session .state)) k)
       ∙ which-message-ends-a-charge (c .settings) (partsOf id .source) (c .session) m h)
 
-  its-ends : (m : ChargeMessage) → isIdle (c .session .state) ≡ false → Its m → messageEnds (c .session .state) (c .session .count) m ≡ true
+  its-ends : (m : ChargeMessage) → isIdle (c .session .state) ≡ false → Its m
+      → messageEnds (c .session .state) (c .session .count) m ≡ true
       → isIdle (frameTo c id s .controller .session .state) ≡ true
   unfolding sessionMoved messageOf appliedOf
   its-ends m h says e =
@@ -141,12 +148,14 @@ module _ (c : Controller) (id : ℕ) (s : List ℕ) where
       ∙ (which-message-ends-a-charge (c .settings) (c .session .station) (c .session) m h ∙ ap not e)
 
 -- ---- settings read
-read-idle : (a : SettingsRead) (c : Controller) → isIdle (c .session .state) ≡ false → isIdle (readInto a c .session .state) ≡ isRead a
+read-idle : (a : SettingsRead) (c : Controller) → isIdle (c .session .state) ≡ false
+    → isIdle (readInto a c .session .state) ≡ isRead a
 unfolding readInto isRead freshOf isIdle
 read-idle (read.Read x) c h = refl
 read-idle (read.Refused n) c h = h
 
-read-charging : (a : SettingsRead) (c : Controller) → isCharging (c .session .state) ≡ true → isCharging (readInto a c .session .state) ≡ not (isRead a)
+read-charging : (a : SettingsRead) (c : Controller) → isCharging (c .session .state) ≡ true
+    → isCharging (readInto a c .session .state) ≡ not (isRead a)
 unfolding readInto isRead freshOf isCharging
 read-charging (read.Read x) c h = refl
 read-charging (read.Refused n) c h = h
@@ -157,7 +166,8 @@ not-true true h = refl
 not-true false h = absurd (false≢true h)
 
 module _ (c : Controller) where
-  ended-call : (e : Call) → noSession c ≡ false → noSession (after c e) ≡ true → EndsSession (ltb 0 (c .session .count)) c e
+  ended-call : (e : Call) → noSession c ≡ false → noSession (after c e) ≡ true
+      → EndsSession (ltb 0 (c .session .count)) c e
   unfolding noSession after
   ended-call (Receive id s) h e = ended-came c id s (frameTo c id s) (came c id s) h e
   ended-call (Tick r v t old) h e =
@@ -167,7 +177,8 @@ module _ (c : Controller) where
   ended-call (Write old) h e = absurd (false≢true (sym h ∙ e))
   ended-call (Read s) h e = ByReading (sym (read-idle (readOf s) c h) ∙ e)
 
-  call-ends : (e : Call) → noSession c ≡ false → EndsSession (ltb 0 (c .session .count)) c e → noSession (after c e) ≡ true
+  call-ends : (e : Call) → noSession c ≡ false → EndsSession (ltb 0 (c .session .count)) c e
+      → noSession (after c e) ≡ true
   unfolding noSession after messageEnds
   call-ends e h (ByCem {id = id} {s = s} says) = its-ends c id s Cem h says refl
   call-ends e h (ByCst {id = id} {s = s} says stopping gone) = its-ends c id s (Cst true) h says (rw (stopping, gone))
@@ -175,7 +186,8 @@ module _ (c : Controller) where
   call-ends e h (ByReading {s = s} k) = read-idle (readOf s) c h ∙ k
 
   -- THE ANSWER: what ends a charge, in any state whatever
-  pub what-ends-a-charge : (e : Call) → isCharging (c .session .state) ≡ true → isCharging (after c e .session .state) ≡ false → EndsCharge c e
+  pub what-ends-a-charge : (e : Call) → isCharging (c .session .state) ≡ true
+      → isCharging (after c e .session .state) ≡ false → EndsCharge c e
   unfolding after
   what-ends-a-charge (Receive id s) h e = stopped-came c id s (frameTo c id s) (came c id s) h e
   what-ends-a-charge (Tick r v t old) h e =
@@ -186,7 +198,8 @@ module _ (c : Controller) where
   what-ends-a-charge (Read s) h e = AtReading (not-true (isRead (readOf s)) (sym e ∙ read-charging (readOf s) c h))
 
   -- and each of these does
-  pub each-ends-a-charge : (e : Call) → isCharging (c .session .state) ≡ true → EndsCharge c e → isCharging (after c e .session .state) ≡ false
+  pub each-ends-a-charge : (e : Call) → isCharging (c .session .state) ≡ true → EndsCharge c e
+      → isCharging (after c e .session .state) ≡ false
   unfolding after messageLeaves
   each-ends-a-charge e h (AtCcs {id = id} {s = s} says) = its-stops c id s (Ccs false) h says refl
   each-ends-a-charge e h (AtCst {id = id} {s = s} {b = b} says) = its-stops c id s (Cst b) h says refl

@@ -35,7 +35,9 @@ ps-byte : (b : Bool) (target ps : ℕ) → target < 256 → ps < 256 → cond b 
 ps-byte true target ps h k = h
 ps-byte false target ps h k = k
 
-pf-at : (a d e f n : ℕ) → n ≡ a % 8 * 0x400_0000 + 0 % 2 * 0x200_0000 + 0 % 2 * 0x100_0000 + d * 0x1_0000 + e * 0x100 + f → d < 256 → e < 256 → f < 256
+pf-at : (a d e f n : ℕ)
+    → n ≡ a % 8 * 0x400_0000 + 0 % 2 * 0x200_0000 + 0 % 2 * 0x100_0000 + d * 0x1_0000 + e * 0x100 + f → d < 256
+    → e < 256 → f < 256
     → n / 0x1_0000 % 256 ≡ d
 pf-at a d e f n whole hd he hf = let q : n / 0x1_0000 ≡ a % 8 * 1024 + d = omega arith in omega arith
 
@@ -116,7 +118,8 @@ cell-row row l h p =
     }
 
 -- the row of a group that begins within a table of cells
-group-row : (kind : Kind) (group n : ℕ) → group * perGroup kind < n → n ≤ 300 → RowKind false false true (groupRow kind group)
+group-row : (kind : Kind) (group n : ℕ) → group * perGroup kind < n → n ≤ 300
+    → RowKind false false true (groupRow kind group)
 group-row Voltages group n h k = cell-row (groupRow Voltages group) (omega arith) (omega arith) (omega arith)
 group-row Temperatures group n h k = cell-row (groupRow Temperatures group) (omega arith) (omega arith) (omega arith)
 
@@ -152,7 +155,8 @@ pub record Bytes (c : Controller) : Type 0 where
   pub sources : Below (waiting (c .queries))
 
 -- ---- the frames of a tick that is accepted
-begins-within : (v : List ℕ) (t : List ℤ) (q : Query) → Fit v t → pastEnd v t q ≡ false → RowKind false false true (groupRow (q .kind) (q .group))
+begins-within : (v : List ℕ) (t : List ℤ) (q : Query) → Fit v t → pastEnd v t q ≡ false
+    → RowKind false false true (groupRow (q .kind) (q .group))
 unfolding pastEnd
 begins-within v t q f h = group-row (q .kind) (q .group) (tableLength (q .kind) v t) (leb-false (tableLength (q .kind) v t) _ h) (at-most (q .kind))
   where

@@ -53,7 +53,8 @@ use Rattle.demands.proofs.GoneOutLaw.{Law, told-by-count}
 abbrev SinceFirst : ℕ → Bool → Type 0
 SinceFirst n before = sinceFirstTick n ≡ before
 
-since-first : (n : ℕ) (before now : Bool) → SinceFirst n before → (n ≡ 0 → now ≡ true) → SinceFirst (n + 1) (before || now)
+since-first : (n : ℕ) (before now : Bool) → SinceFirst n before → (n ≡ 0 → now ≡ true)
+    → SinceFirst (n + 1) (before || now)
 since-first n true now h k = lt-ltb 0 (n + 1) (omega arith)
 since-first n false now h k = lt-ltb 0 (n + 1) (omega arith) ∙ sym (k (omega (arith, ltb-false 0 n h)))
 
@@ -61,7 +62,8 @@ since-first n false now h k = lt-ltb 0 (n + 1) (omega arith) ∙ sym (k (omega (
 abbrev SinceEcp : ℕ → Bool → Type 0
 SinceEcp n before = sinceFirstEcp n ≡ true → before ≡ true
 
-since-ecp : (n : ℕ) (before now : Bool) (past : Bool) → sinceFirstEcp n ≡ past → SinceEcp n before → (n ≡ firstEcp → now ≡ true) → SinceEcp (n + 1) (before || now)
+since-ecp : (n : ℕ) (before now : Bool) (past : Bool) → sinceFirstEcp n ≡ past → SinceEcp n before
+    → (n ≡ firstEcp → now ≡ true) → SinceEcp (n + 1) (before || now)
 since-ecp n before now true e h k g = or-left before now (h e)
 since-ecp n before now false e h k g = or-right before now (k (omega (arith, ltb-true _ (n + 1) g, ltb-false _ n e)))
 
@@ -77,7 +79,8 @@ at-first n fs h = rw h
 abbrev sentAs : Row → Settings → ℕ → List ℕ → Frame
 sentAs row x station bytes = frameOf row station (x .own) bytes
 
-own-is : (row : Row) (x : Settings) (station : ℕ) (bytes : List ℕ) → isOurs row x station (sentAs row x station bytes) ≡ true
+own-is : (row : Row) (x : Settings) (station : ℕ) (bytes : List ℕ)
+    → isOurs row x station (sentAs row x station bytes) ≡ true
 unfolding isOurs
 own-is row x station bytes = eq-eqb (identifierOf row station (x .own)) _ refl
 
@@ -86,7 +89,8 @@ module _ (x : Settings) (station n : ℕ) (others : List Frame) where
   unfolding eim eimOf saysYes
   eim-first h = rw (at-first n (eimOf x station true ∷ []) h) (first-holds (eim .ours x station) (eimOf x station true) others (rw (own-is EIM x station _)))
 
-  ecp-first : (r : Readings) → n ≡ firstEcp → holds (ecp .ours x station) (parametersFrames x r station n ++ others) ≡ true
+  ecp-first : (r : Readings) → n ≡ firstEcp
+      → holds (ecp .ours x station) (parametersFrames x r station n ++ others) ≡ true
   unfolding ecp ecpOf parametersFrames
   ecp-first r h = rw h (first-holds (ecp .ours x station) (ecpOf x station) others (own-is ECP x station _))
 
@@ -94,7 +98,8 @@ module _ (x : Settings) (station n : ℕ) (others : List Frame) where
   unfolding erm ermOf saysYes
   erm-first h = rw (at-first n (ermOf x station true ∷ []) h) (first-holds (erm .ours x station) (ermOf x station true) others (rw (own-is ERM x station _)))
 
-  est-always : (r : Readings) (k : Cells) (y : Bool) (e : Est) → holds (est .ours x station) (stoppingFrames x r k station n y e ++ others) ≡ true
+  est-always : (r : Readings) (k : Cells) (y : Bool) (e : Est)
+      → holds (est .ours x station) (stoppingFrames x r k station n y e ++ others) ≡ true
   unfolding est stoppingFrames estBytes estFrame
   est-always r k y Awaited = first-holds (est .ours x station) _ _ (own-is EST x station _)
   est-always r k y (Fixed a b) = first-holds (est .ours x station) _ _ (own-is EST x station _)
@@ -270,7 +275,8 @@ yes-alike st to OtherPhase = refl
 yes-alike st to OtherMarks = refl
 
 -- a CRM does not begin Ready
-crm-begins : (y : Bool) (most : TenthAmps) (p : Phase) (t b : Bool) → isReady (stateAfter (Ready y most) (cond t (cond b (Enter (Charging p)) Heard) OutOfStep)) ≡ true
+crm-begins : (y : Bool) (most : TenthAmps) (p : Phase) (t b : Bool)
+    → isReady (stateAfter (Ready y most) (cond t (cond b (Enter (Charging p)) Heard) OutOfStep)) ≡ true
     → false ≡ begins (cond t (cond b (Enter (Charging p)) Heard) OutOfStep)
 unfolding isReady stateAfter begins
 crm-begins y most p true true h = absurd (false≢true h)
@@ -332,7 +338,8 @@ module _ (x : Settings) (n : ℕ) (st : State) where
   unfolding outcomeOf inParameters
   cmp-asks o e = rw e (only-if (goneOut firstEcp n) _)
 
-  crm-asks : (b : Bool) (s : IsReady st) → outcomeNumber (outcomeOf x st n (Crm b)) ≡ 0 → (s .accepted && goneOut 0 n) ≡ true
+  crm-asks : (b : Bool) (s : IsReady st) → outcomeNumber (outcomeOf x st n (Crm b)) ≡ 0
+      → (s .accepted && goneOut 0 n) ≡ true
   unfolding outcomeOf inReady crmInReady
   crm-asks b s h = only-if (s .accepted && goneOut 0 n) _ (rw (s .is) at h)
 
@@ -375,17 +382,20 @@ module _ (ks : List Call) (c : Controller) (e : boxAt paperNext NoController ks 
     abbrev Its : ChargeMessage → Type 0
     Its m = Says (c .settings) (c .session .station) m id s
 
-    pub cvm-taken : (b : Bool) → isOffered (c .session .state) ≡ true → Its (Cvm b) → frameTo c id s .number ≡ 0 → sent eim ≡ true
+    pub cvm-taken : (b : Bool) → isOffered (c .session .state) ≡ true → Its (Cvm b) → frameTo c id s .number ≡ 0
+        → sent eim ≡ true
     cvm-taken b h says z =
         let n = sym (number-is c id s (Cvm b) (offered-open (c .session .state) h) says) ∙ z in
         sym (eim-told h) ∙ cvm-asks (c .settings) (c .session .count) (c .session .state) b (offered-is (c .session .state) h) n
 
-    pub cmp-taken : (o : Offer) → isParameters (c .session .state) ≡ true → Its (Cmp o) → frameTo c id s .number ≡ 0 → sent ecp ≡ true
+    pub cmp-taken : (o : Offer) → isParameters (c .session .state) ≡ true → Its (Cmp o) → frameTo c id s .number ≡ 0
+        → sent ecp ≡ true
     cmp-taken o h says z =
         let n = sym (number-is c id s (Cmp o) (parameters-open (c .session .state) h) says) ∙ z in
         ecp-told h (cmp-asks (c .settings) (c .session .count) (c .session .state) o (parameters-is (c .session .state) h) n)
 
-    pub crm-taken : (b : Bool) → isReady (c .session .state) ≡ true → Its (Crm b) → frameTo c id s .number ≡ 0 → sent erm ≡ true
+    pub crm-taken : (b : Bool) → isReady (c .session .state) ≡ true → Its (Crm b) → frameTo c id s .number ≡ 0
+        → sent erm ≡ true
     crm-taken b h says z =
         let st = c .session .state in
         let y = ready-is st h in

@@ -77,7 +77,8 @@ module _ (w : Watch) (sure : State → Bool) (Told : ℕ → Bool → Type 0) wh
     pub none : Told 0 false
     -- a tick: one had gone out, or is among the frames of the state at its count, to which others may come
     pub tick : (x : Settings) (r : Readings) (k : Cells) (station n : ℕ) (st : State) (others : List Frame) (before : Bool)
-        → sure st ≡ true → Told n before → Told (n + 1) (before || holds (w .ours x station) (framesIn x r k station n st ++ others))
+        → sure st ≡ true → Told n before
+        → Told (n + 1) (before || holds (w .ours x station) (framesIn x r k station n st ++ others))
     -- a message that comes in the state and leaves it so begins it exactly where the watch says
     pub message : (x : Settings) (n : ℕ) (st : State) (m : ChargeMessage) → w .here st ≡ true
         → w .here (stateAfter st (outcomeOf x st n m)) ≡ true
@@ -99,7 +100,8 @@ module _ (w : Watch) (sure : State → Bool) (Told : ℕ → Bool → Type 0) (l
   abbrev quiet : Bool → State → Bool → State → Bool
   quiet before st t to = w .here to && (((w .here st && not t) && before) || false)
 
-  as-it-was : (before t : Bool) (s u : Session) → u ≡ s → t ≡ false → Agrees before s → Agrees (quiet before (s .state) t (u .state)) u
+  as-it-was : (before t : Bool) (s u : Session) → u ≡ s → t ≡ false → Agrees before s
+      → Agrees (quiet before (s .state) t (u .state)) u
   as-it-was before t s u e f h =
       subst (λ (z : Session). Agrees (quiet before (s .state) t (z .state)) z) (sym e)
       (λ p. let i = law .sure-here (s .state) p in
@@ -188,7 +190,8 @@ module _ (w : Watch) (sure : State → Bool) (Told : ℕ → Bool → Type 0) (l
 
   module _ (before : Bool) (c : Controller) (h : Agrees before (c .session)) where
     -- a frame that leaves the session as it was is no charge message that was taken
-    left-untaken : (these : Charge → Bool) (a : Recognized) (n : ℕ) → (chargeIn a ≡ true → n ≡ 0 → ⊥) → (isOneOf these a && eqb n 0) ≡ false
+    left-untaken : (these : Charge → Bool) (a : Recognized) (n : ℕ) → (chargeIn a ≡ true → n ≡ 0 → ⊥)
+        → (isOneOf these a && eqb n 0) ≡ false
     unfolding isOneOf chargeIn
     left-untaken these (recognized.As (message.Charge k)) n f = rw (ne-eqb n 0 (f refl)) (and-none (these k))
       where
@@ -236,7 +239,8 @@ module _ (w : Watch) (sure : State → Bool) (Told : ℕ → Bool → Type 0) (l
   read-agrees before NoController s (read.Refused n) h = tt
   read-agrees before (Using c) s (read.Refused n) h = as-it-was before false (c .session) (c .session) refl refl h
 
-  call-agrees : (before : Bool) (b : Box) (k : Call) → AgreesIn before b → AgreesIn (goneAfter w before (stepAt b k)) (boxAfter paperNext b k)
+  call-agrees : (before : Bool) (b : Box) (k : Call) → AgreesIn before b
+      → AgreesIn (goneAfter w before (stepAt b k)) (boxAfter paperNext b k)
   unfolding AgreesIn goneAfter goesOn isHere sends takes numberSeen framesSeen boxAfter seenOf startOf holds
   call-agrees before b (Read s) h = read-agrees before b s (readOf s) h
   call-agrees before NoController (Receive id s) h = tt
@@ -247,12 +251,14 @@ module _ (w : Watch) (sure : State → Bool) (Told : ℕ → Bool → Type 0) (l
   call-agrees before (Using c) (Write old) h = as-it-was before false (c .session) (c .session) refl refl h
 
   -- ---- any run
-  run-agrees : (before : Bool) (b : Box) (ks : List Call) → AgreesIn before b → AgreesIn (gone w before (stepsOf b ks)) (boxAt paperNext b ks)
+  run-agrees : (before : Bool) (b : Box) (ks : List Call) → AgreesIn before b
+      → AgreesIn (gone w before (stepsOf b ks)) (boxAt paperNext b ks)
   unfolding gone stepsOf boxAt
   run-agrees before b [] h = h
   run-agrees before b (k ∷ ks) h = run-agrees (goneAfter w before (stepAt b k)) (boxAfter paperNext b k) ks (call-agrees before b k h)
 
-  pub told-by-count : (ks : List Call) (c : Controller) → boxAt paperNext NoController ks ≡ Using c → sure (c .session .state) ≡ true
+  pub told-by-count : (ks : List Call) (c : Controller) → boxAt paperNext NoController ks ≡ Using c
+      → sure (c .session .state) ≡ true
       → Told (c .session .count) (gone w false (stepsOf NoController ks))
   unfolding AgreesIn
   told-by-count ks c e = subst (AgreesIn (gone w false (stepsOf NoController ks))) e (run-agrees false NoController ks tt)

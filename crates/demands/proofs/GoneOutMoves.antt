@@ -101,7 +101,8 @@ module _ (source : ℕ) (s : Session) where
   begun-at-0 outcome.End h = absurd (false≢true h)
 
   -- one that goes on keeps it
-  pub kept-count : (o : Outcome) → begins o ≡ false → (place (stateAfter (s .state) o) ≡ 0 → ⊥) → sessionAfter source s o .count ≡ s .count
+  pub kept-count : (o : Outcome) → begins o ≡ false → (place (stateAfter (s .state) o) ≡ 0 → ⊥)
+      → sessionAfter source s o .count ≡ s .count
   unfolding sessionAfter begins stateAfter place
   kept-count outcome.Refuse h i = refl
   kept-count outcome.OutOfStep h i = refl
@@ -113,7 +114,8 @@ module _ (source : ℕ) (s : Session) where
 
 module _ (x : Settings) (n : ℕ) where
   -- and is the same
-  pub kept-state : (st : State) (o : Outcome) → Leads x n st o → begins o ≡ false → (place (stateAfter st o) ≡ 0 → ⊥) → Alike st (stateAfter st o)
+  pub kept-state : (st : State) (o : Outcome) → Leads x n st o → begins o ≡ false → (place (stateAfter st o) ≡ 0 → ⊥)
+      → Alike st (stateAfter st o)
   unfolding begins stateAfter place
   kept-state st o NotTaken h i = AsItWas
   kept-state st o NotInStep h i = AsItWas
@@ -130,7 +132,8 @@ module _ (x : Settings) (n : ℕ) where
   kept-state st o EndsIt h i = absurd (i refl)
 
   -- no state but Ready is begun by a message that comes in it
-  pub begun-from-elsewhere : (at : ℕ) → (at ≡ 4 → ⊥) → (st : State) (o : Outcome) → Leads x n st o → place st ≡ at → place (stateAfter st o) ≡ at
+  pub begun-from-elsewhere : (at : ℕ) → (at ≡ 4 → ⊥) → (st : State) (o : Outcome) → Leads x n st o → place st ≡ at
+      → place (stateAfter st o) ≡ at
       → begins o ≡ false
   unfolding begins stateAfter place
   begun-from-elsewhere at k st o NotTaken h i = refl

@@ -31,7 +31,8 @@ module _ (x : Settings) (source : ℕ) (s : Session) where
   abbrev pub idleAfter : State → Outcome → Bool
   idleAfter st o = isIdle (sessionAfter source (withState s st) o .state)
 
-  cst-after : (st : State) (v g : Bool) (u w k : Outcome) → idleAfter st u ≡ true → idleAfter st w ≡ false → idleAfter st k ≡ false
+  cst-after : (st : State) (v g : Bool) (u w k : Outcome) → idleAfter st u ≡ true → idleAfter st w ≡ false
+      → idleAfter st k ≡ false
       → idleAfter st (cond v (cond g u w) k) ≡ (v && g)
   cst-after st true true u w k h i j = h
   cst-after st true false u w k h i j = i
@@ -41,7 +42,8 @@ module _ (x : Settings) (source : ℕ) (s : Session) where
   and-false true = refl
   and-false false = refl
 
-  pub ends-message : (st : State) (m : ChargeMessage) → isIdle st ≡ false → idleAfter st (outcomeOf x st n m) ≡ messageEnds st n m
+  pub ends-message : (st : State) (m : ChargeMessage) → isIdle st ≡ false
+      → idleAfter st (outcomeOf x st n m) ≡ messageEnds st n m
   unfolding isIdle isStopping messageEnds sessionAfter outcomeOf inOffered inUnverified inParameters inReady readyOf crmInReady inCharging inStopping inError
   ends-message Idle m h = absurd (false≢true (sym h))
   ends-message Offered Cim h = refl
@@ -103,7 +105,8 @@ module _ (x : Settings) (source : ℕ) (s : Session) where
   ccs-after st true u w h i = h
   ccs-after st false u w h i = i
 
-  pub leaves-message : (st : State) (m : ChargeMessage) → isCharging st ≡ true → chargingAfter st (outcomeOf x st n m) ≡ not (messageLeaves m)
+  pub leaves-message : (st : State) (m : ChargeMessage) → isCharging st ≡ true
+      → chargingAfter st (outcomeOf x st n m) ≡ not (messageLeaves m)
   unfolding isCharging messageLeaves sessionAfter outcomeOf inCharging
   leaves-message Idle m h = absurd (false≢true h)
   leaves-message Offered m h = absurd (false≢true h)

@@ -97,7 +97,8 @@ module _ (c : Controller) (source : ℕ) (s : List ℕ) where
       let a : allowedContent k s ≡ false = refused-is (allowedContent k s) (sym t ∙ (ap contentNumber (sym e) ∙ content-number k s)) in
       rw a t
 
-  charge-told : (k : Charge) → chargeTo c source k s .number ≡ firstGiven (messageLines c source s (recognized.As (message.Charge k)))
+  charge-told : (k : Charge)
+      → chargeTo c source k s .number ≡ firstGiven (messageLines c source s (recognized.As (message.Charge k)))
   unfolding chargeTo messageLines firstGiven
   charge-told k = either (mayCharge c source) (content-told k (contentOf k s) refl)
     where
@@ -109,7 +110,8 @@ module _ (c : Controller) (source : ℕ) (s : List ℕ) where
       either true h = h
       either false h = refl
 
-  query-told : (q : Query) → queryTo c source q .number ≡ firstGiven (messageLines c source s (recognized.As (message.Query q)))
+  query-told : (q : Query)
+      → queryTo c source q .number ≡ firstGiven (messageLines c source s (recognized.As (message.Query q)))
   unfolding queryTo queriesMoved queuedOf askNumber messageLines firstGiven
   query-told q = refl
 
@@ -157,7 +159,8 @@ two-checks true true n m = refl
 two-checks true false n m = refl
 two-checks false b n m = refl
 
-tick-told : (a b t : Bool) → _≡_ {A = ℕ} (cond a (cond b (cond t 16 0) 15) 14) (cond (not a) 14 (cond (not b) 15 (cond t 16 0)))
+tick-told : (a b t : Bool)
+    → _≡_ {A = ℕ} (cond a (cond b (cond t 16 0) 15) 14) (cond (not a) 14 (cond (not b) 15 (cond t 16 0)))
 tick-told true true t = refl
 tick-told true false t = refl
 tick-told false b t = refl

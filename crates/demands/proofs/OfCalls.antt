@@ -118,7 +118,8 @@ module _ (w : Watch) (same : (st : State) → w .here (foldState st) ≡ w .here
   gone-folds g [] = refl
   gone-folds g (x ∷ xs) = ap (λ (b : Bool). gone w b (map codeStep xs)) (after-folds g x) ∙ gone-folds (goneAfter w g x) xs
 
-  gone-made : (ms : List CallMade) (c : Controller) → AfterCalls ms c → hasGone w ms ≡ gone w false (stepsOf NoController (callsIn ms))
+  gone-made : (ms : List CallMade) (c : Controller) → AfterCalls ms c
+      → hasGone w ms ≡ gone w false (stepsOf NoController (callsIn ms))
   gone-made ms c a = ap (gone w false) (steps-from-start ms (a .kept)) ∙ gone-folds false (stepsOf NoController (callsIn ms))
 
 -- ---- what has gone out, told by the state's count
@@ -149,7 +150,8 @@ module _ (ms : List CallMade) (c : Controller) (a : AfterCalls ms c) where
   abbrev paper : Controller
   paper = behind ms c a .paper
 
-  in-state : (f : State → Bool) → ((st : State) → f (foldState st) ≡ f st) → f (c .session .state) ≡ true → f (paper .session .state) ≡ true
+  in-state : (f : State → Bool) → ((st : State) → f (foldState st) ≡ f st) → f (c .session .state) ≡ true
+      → f (paper .session .state) ≡ true
   unfolding codeOf folds
   in-state f k e = sym (k (paper .session .state)) ∙ (ap (λ (d : Controller). f (d .session .state)) (behind ms c a .code) ∙ e)
 
@@ -203,7 +205,8 @@ ecp-gone ms c a h g =
     (sym (ecp-kept (b .paper .session .state) (b .paper .session .count) q) ∙ (ap (ltb firstEcp) (sym (count-behind ms c a)) ∙ g))
 
 -- ---- what ends a session, and what ends a charge
-over-use : (ms : List CallMade) (c : Controller) (m : CallMade) → AfterCalls ms c → NextCall c m → noSession (useThen c m) ≡ noSession (after c (callIn m))
+over-use : (ms : List CallMade) (c : Controller) (m : CallMade) → AfterCalls ms c → NextCall c m
+    → noSession (useThen c m) ≡ noSession (after c (callIn m))
 over-use ms c m a h = ap noSession (use-is c (its-own ms c a) m h) ∙ no-session-code (after c (callIn m))
 
 charging-use : (ms : List CallMade) (c : Controller) (m : CallMade) → AfterCalls ms c → NextCall c m
@@ -232,7 +235,8 @@ pub each-ends-a-charge : EachEndsACharge
 each-ends-a-charge ms c m a h o e = charging-use ms c m a h ∙ ends.each-ends-a-charge c (callIn m) o e
 
 -- ---- what a tick does
-pub accepted-as : (c : Controller) (r : Readings) (v : List ℕ) (t : List ℤ) (old new : List ℕ) (k : Ticked) → NextCall c (DidTick r v t old new k)
+pub accepted-as : (c : Controller) (r : Readings) (v : List ℕ) (t : List ℤ) (old new : List ℕ) (k : Ticked)
+    → NextCall c (DidTick r v t old new k)
     → k .number ≡ 0 → accepts r v t old ≡ true
 unfolding KeepsPromise accepts
 accepted-as c r v t old new k h z = eq-eqb (tickNumber r v t (length old)) 0 (sym (h .number) ∙ z)
@@ -258,7 +262,8 @@ unfolding noSession
 in-idle c h = idle-state (c .session .state) h
 
 -- the session that the next call leaves
-pub session-use : (ms : List CallMade) (c : Controller) (m : CallMade) → AfterCalls ms c → NextCall c m → useThen c m .session ≡ folds (after c (callIn m) .session)
+pub session-use : (ms : List CallMade) (c : Controller) (m : CallMade) → AfterCalls ms c → NextCall c m
+    → useThen c m .session ≡ folds (after c (callIn m) .session)
 unfolding codeOf
 session-use ms c m a h = ap (λ (z : Controller). z .session) (use-is c (its-own ms c a) m h)
 
@@ -295,7 +300,8 @@ module _ (ms : List CallMade) (c : Controller) (u : AfterCalls ms c) (id : ℕ) 
       frame-in-step (paper ms c u) id s .0
       ∙ (ap (λ (d : Controller). frameTo d id s .number) (behind ms c u .code) ∙ (ap (λ (d : Answer). d .number) (sym h) ∙ z))
 
-  says-behind : (m : ChargeMessage) → Says (c .settings) (c .session .station) m id s → Says (paper ms c u .settings) (paper ms c u .session .station) m id s
+  says-behind : (m : ChargeMessage) → Says (c .settings) (c .session .station) m id s
+      → Says (paper ms c u .settings) (paper ms c u .session .station) m id s
   unfolding codeOf folds
   says-behind m k = subst (λ (d : Controller). Says (d .settings) (d .session .station) m id s) (sym (behind ms c u .code)) k
 
@@ -318,7 +324,8 @@ crm-taken ms c b id s a u h says st z =
     (says-behind ms c u id s a h (Crm b) says) (number-behind ms c u id s a h z)
 
 -- ---- what cannot reach a session
-settings-use : (ms : List CallMade) (c : Controller) (m : CallMade) → AfterCalls ms c → NextCall c m → useThen c m .settings ≡ after c (callIn m) .settings
+settings-use : (ms : List CallMade) (c : Controller) (m : CallMade) → AfterCalls ms c → NextCall c m
+    → useThen c m .settings ≡ after c (callIn m) .settings
 unfolding codeOf
 settings-use ms c m a h = ap (λ (z : Controller). z .settings) (use-is c (its-own ms c a) m h)
 

@@ -72,7 +72,8 @@ code-box : (p c : Controller) → codeOf p ≡ c → codeBox (Using p) ≡ Using
 unfolding codeBox
 code-box p c e = ap Using e
 
-use-code : (p c : Controller) → codeOf p ≡ c → (m : CallMade) → KeepsPromise (Using c) m → useThen c m ≡ codeOf (after p (callIn m))
+use-code : (p c : Controller) → codeOf p ≡ c → (m : CallMade) → KeepsPromise (Using c) m
+    → useThen c m ≡ codeOf (after p (callIn m))
 unfolding codeBox
 use-code p c e m h =
     using-same _ _
@@ -81,7 +82,8 @@ use-code p c e m h =
     ∙ (then-code (Using p) m (subst (λ (z : Box). KeepsPromise z m) (sym (code-box p c e)) h)
     ∙ ap codeBox (after-is p (callIn m)))))
 
-pub use-all : (ms : List CallMade) (p c : Controller) → codeOf p ≡ c → AllKeepPromises (Using c) ms → useLast c ms ≡ codeOf (afterAll p (callsIn ms))
+pub use-all : (ms : List CallMade) (p c : Controller) → codeOf p ≡ c → AllKeepPromises (Using c) ms
+    → useLast c ms ≡ codeOf (afterAll p (callsIn ms))
 unfolding AllKeepPromises useLast callsIn afterAll
 use-all [] p c e h = sym e
 use-all (m ∷ ms) p c e h =
@@ -93,7 +95,8 @@ unfolding endsIn
 ends-fold [] = refl
 ends-fold (x ∷ xs) = rw (over-folds (x .after), ends-fold xs)
 
-pub ends-made : (ps : List CallMade) (c : Controller) (ms : List CallMade) → AfterCalls ps c → NextCalls c ms → noSession c ≡ false
+pub ends-made : (ps : List CallMade) (c : Controller) (ms : List CallMade) → AfterCalls ps c → NextCalls c ms
+    → noSession c ≡ false
     → endsIn (stepsMade (Using c) ms) ≡ endsWithin c (callsIn ms)
 ends-made ps c ms a h o =
     ap endsIn (steps-from-use c (its-own ps c a) ms h) ∙ (ends-fold (stepsOf (Using c) (callsIn ms)) ∙ ends-told (callsIn ms) c o)
@@ -168,7 +171,8 @@ start-fold : (a b : TenthAmps) → foldPhase (startPhase a b) ≡ startPhase a b
 unfolding startPhase foldPhase fold
 start-fold a b = either (tooSmall (lesserAmps a b))
   where
-    either : (t : Bool) → foldPhase (cond t (Hold 0) (Drive (lesserAmps a b) 1 0)) ≡ cond t (Hold 0) (Drive (lesserAmps a b) 1 0)
+    either : (t : Bool)
+        → foldPhase (cond t (Hold 0) (Drive (lesserAmps a b) 1 0)) ≡ cond t (Hold 0) (Drive (lesserAmps a b) 1 0)
     either true = refl
     either false = refl
 
@@ -176,7 +180,8 @@ charging-fold : (x : Settings) (st : ℕ) (o : Offer) → folds (chargingWith x 
 unfolding folds foldState foldCount fold
 charging-fold x st o = rw (start-fold (x .limits .current) (stationMaximum o))
 
-pub last-session : (ps : List CallMade) (c : Controller) (ms : List CallMade) → AfterCalls ps c → NextCalls c ms → useLast c ms .session ≡ folds (afterAll c (callsIn ms) .session)
+pub last-session : (ps : List CallMade) (c : Controller) (ms : List CallMade) → AfterCalls ps c → NextCalls c ms
+    → useLast c ms .session ≡ folds (afterAll c (callsIn ms) .session)
 unfolding codeOf
 last-session ps c ms a h = ap (λ (z : Controller). z .session) (use-all ms c c (its-own ps c a) h)
 

@@ -28,7 +28,8 @@ use Rattle.controller.specs.Frame.{sessionMoved}
 use Rattle.demands.proofs.Comes.{Comes, Left, Took, came, says-taken, says-refused}
 
 -- in Idle the list decides
-listed-is : (c : Controller) (source : ℕ) → c .session .state ≡ Idle → mayCharge c source ≡ true → listed source (c .settings .stations) ≡ true
+listed-is : (c : Controller) (source : ℕ) → c .session .state ≡ Idle → mayCharge c source ≡ true
+    → listed source (c .settings .stations) ≡ true
 unfolding mayCharge isIdle
 listed-is c source h e =
     first (isIdle (c .session .state)) (listed source (c .settings .stations)) (eqb source (c .session .station)) (ap isIdle h) e
@@ -60,7 +61,8 @@ module _ (c : Controller) (id : ℕ) (s : List ℕ) (h : c .session .state ≡ I
         number = λ f z. let t : frameTo c id s .number ≡ 11 = ap (λ (a : Answer). a .number) k ∙ kept-11 m e in omega (arith, z, t);
       }
 
-  by-message : (m : ChargeMessage) → Says (c .settings) (partsOf id .source) m id s → mayCharge c (partsOf id .source) ≡ true → frameTo c id s ≡ taken m
+  by-message : (m : ChargeMessage) → Says (c .settings) (partsOf id .source) m id s
+      → mayCharge c (partsOf id .source) ≡ true → frameTo c id s ≡ taken m
       → Opens c id s (frameTo c id s) ⊎ Ignored c id s (frameTo c id s)
   unfolding inIdle
   by-message Cim says may k = inl
@@ -90,7 +92,8 @@ module _ (c : Controller) (id : ℕ) (s : List ℕ) (h : c .session .state ≡ I
   may-is source = rw h
 
   -- and each well-formed CIM from a listed station opens one
-  pub each-opens : Says (c .settings) (partsOf id .source) Cim id s → listed (partsOf id .source) (c .settings .stations) ≡ true → Opens c id s (frameTo c id s)
+  pub each-opens : Says (c .settings) (partsOf id .source) Cim id s
+      → listed (partsOf id .source) (c .settings .stations) ≡ true → Opens c id s (frameTo c id s)
   each-opens says l =
       let k : frameTo c id s ≡ taken Cim = says-taken c id s (partsOf id .source) Cim says (may-is (partsOf id .source) ∙ l) in
       record {

@@ -53,7 +53,8 @@ record Good (z : Session) (c : Controller) (es : List Call) : Type 0 where
   stays : endsWithin c es ≡ false
   last : afterAll c es .session ≡ z
 
-good-step : (z : Session) (c : Controller) (e : Call) (es : List Call) → noSession c ≡ false → Good z (after c e) es → Good z c (e ∷ es)
+good-step : (z : Session) (c : Controller) (e : Call) (es : List Call) → noSession c ≡ false → Good z (after c e) es
+    → Good z c (e ∷ es)
 unfolding endsWithin afterAll
 good-step z c e es o g = record { stays = or-false (noSession c) (endsWithin (after c e) es) o (g .stays); last = g .last }
 
@@ -84,7 +85,8 @@ module _ (x : Settings) (a : ℕ) (o : Offer) where
     now-open : noSession c ≡ false
     now-open = open-in c (mk a (w .silence) (w .count) (w .state)) (w .session) (at-open o k n (w .count) (w .state) (w .place))
 
-    now-tick : (r : Readings) (v : List ℕ) (t : List ℤ) (old : List ℕ) → accepts r v t old ≡ true → wantedOf r ≡ true → b < silenceLimit
+    now-tick : (r : Readings) (v : List ℕ) (t : List ℤ) (old : List ℕ) → accepts r v t old ≡ true → wantedOf r ≡ true
+        → b < silenceLimit
         → Now k (n + 1) (b + 1) (after c (Tick r v t old))
     unfolding after paperNext
     now-tick r v t old f wants l =
@@ -112,7 +114,8 @@ module _ (x : Settings) (a : ℕ) (o : Offer) where
         ∙ (ap (λ (z : Settings). sessionAfter (c .session .station) (c .session) (outcomeOf z (c .session .state) (c .session .count) m)) (w .settings)
         ∙ ap (λ (z : Session). sessionAfter (z .station) z (outcomeOf x (z .state) (z .count) m)) (w .session))
 
-    now-speaks : (m : ChargeMessage) (id : ℕ) (s : List ℕ) → Says x a m id s → besides k n m ≡ true → Now k n 0 (after c (Receive id s))
+    now-speaks : (m : ChargeMessage) (id : ℕ) (s : List ℕ) → Says x a m id s → besides k n m ≡ true
+        → Now k n 0 (after c (Receive id s))
     now-speaks m id s h f =
         let y : Word x a o k n (sessionAfter a (mk a (w .silence) (w .count) (w .state)) (outcomeOf x (w .state) (w .count) m)) =
         at-word x a o (w .silence) k n (w .count) (w .state) m (w .place) f in
@@ -151,7 +154,8 @@ module _ (x : Settings) (a : ℕ) (o : Offer) where
           place = w .place;
         }
 
-    says-here : (m : ChargeMessage) (id : ℕ) (s : List ℕ) → Says (c .settings) (c .session .station) m id s → Says x a m id s
+    says-here : (m : ChargeMessage) (id : ℕ) (s : List ℕ) → Says (c .settings) (c .session .station) m id s
+        → Says x a m id s
     says-here m id s h =
         subst (λ (z : Settings). Says z a m id s) (w .settings) (subst (λ (z : Session). Says (c .settings) (z .station) m id s) (w .session) h)
 
@@ -174,7 +178,8 @@ module _ (x : Settings) (a : ℕ) (o : Offer) where
     now-passes (Read s) h = now-read (readOf s) h
 
   -- a stretch begins with a message that was taken
-  begins : (k : Stretch) (c : Controller) (id : ℕ) (s : List ℕ) (st : State) → c .settings ≡ x → after c (Receive id s) .session ≡ mk a 0 0 st
+  begins : (k : Stretch) (c : Controller) (id : ℕ) (s : List ℕ) (st : State) → c .settings ≡ x
+      → after c (Receive id s) .session ≡ mk a 0 0 st
       → At o k 0 st 0 → Now k 0 0 (after c (Receive id s))
   begins k c id s st p h l =
       record {
@@ -194,7 +199,8 @@ module _ (x : Settings) (a : ℕ) (o : Offer) where
   unfolding isIdle
   charging-open = refl
 
-  follow : (k : Stretch) (n b : ℕ) (es : List Call) → Follows x a o k n b es → (c : Controller) → Now k n b c → Goal c es
+  follow : (k : Stretch) (n b : ℕ) (es : List Call) → Follows x a o k n b es → (c : Controller) → Now k n b c
+      → Goal c es
   follow k n b es (Passes {e = e} {es = fs} h f) c w =
       good-step _ c e fs (now-open k n b c w) (follow k n b fs f (after c e) (now-passes k n b c w e h))
   follow k n b es (Ticks {r = r} {v = v} {t = t} {old = old} {es = fs} h u l f) c w =
@@ -230,7 +236,8 @@ module _ (x : Settings) (a : ℕ) (o : Offer) where
 -- a station whose CIM was taken, and which follows the handshake in what reaches the session, whatever else comes in
 -- between: Charging, with that station and its last offer
 pub reaches-charging : (c : Controller) (st : ℕ) (o : Offer) (es : List Call) → c .session ≡ opened st
-    → Follows (c .settings) st o UntilCvm 0 0 (reaching st es) → afterAll c es .session ≡ chargingWith (c .settings) st o
+    → Follows (c .settings) st o UntilCvm 0 0 (reaching st es)
+    → afterAll c es .session ≡ chargingWith (c .settings) st o
 reaches-charging c st o es h f =
     let w : Now (c .settings) st o UntilCvm 0 0 c =
     record { silence = 0; count = 0; state = Offered; settings = refl; session = h; quiet = omega arith; place = AtOffered } in
@@ -240,7 +247,8 @@ reaches-charging c st o es h f =
     ∙ g .last
 
 -- a listed station's CIM, taken in Idle, is such a beginning
-pub cim-opens : (c : Controller) (st id : ℕ) (s : List ℕ) → c .session .state ≡ Idle → listed st (c .settings .stations) ≡ true
+pub cim-opens : (c : Controller) (st id : ℕ) (s : List ℕ) → c .session .state ≡ Idle
+    → listed st (c .settings .stations) ≡ true
     → Says (c .settings) st Cim id s → after c (Receive id s) .session ≡ opened st
 unfolding after
 cim-opens c st id s i l h =

@@ -26,7 +26,8 @@ use Rattle.controller.specs.Frame.{sessionMoved}
 use Rattle.demands.proofs.Comes.{Comes, Left, Took, came, station-is, taken-in}
 
 -- the session takes what its station says
-pub frame-says : (c : Controller) (m : ChargeMessage) (id : ℕ) (s : List ℕ) → Says (c .settings) (c .session .station) m id s → noSession c ≡ false
+pub frame-says : (c : Controller) (m : ChargeMessage) (id : ℕ) (s : List ℕ)
+    → Says (c .settings) (c .session .station) m id s → noSession c ≡ false
     → frameTo c id s .controller .session ≡ messageOf (c .settings) (c .session .station) (c .session) m .session
 unfolding sessionMoved noSession
 frame-says c m id s h o = ap (λ (a : Answer). a .controller .session) (taken-in c id s m o h)
@@ -41,7 +42,8 @@ unfoldable allowedIn : Content → ChargeMessage
 allowedIn (content.Allowed m) = m
 allowedIn (content.Refused n) = Cim
 
-pub says-one : (x : Settings) (st : ℕ) (m w : ChargeMessage) (id : ℕ) (s : List ℕ) → Says x st m id s → Says x st w id s → m ≡ w
+pub says-one : (x : Settings) (st : ℕ) (m w : ChargeMessage) (id : ℕ) (s : List ℕ) → Says x st m id s → Says x st w id s
+    → m ≡ w
 unfolding kindIn allowedIn
 says-one x st m w id s h k =
     let e : chargeOf m ≡ chargeOf w = ap kindIn (sym (h .checks) ∙ k .checks) in

@@ -97,7 +97,8 @@ module _ (x : Settings) (source : ℕ) (s : Session) where
   message-needs st m = outcome-needs st (outcomeOf x st n m) (outcome-leads x n st m)
 
 -- a frame, whoever sends it
-frame-needs : (c : Controller) (id : ℕ) (s : List ℕ) (a : Answer) → Comes c id s a → needed (a .controller .session) ≤ needed (c .session)
+frame-needs : (c : Controller) (id : ℕ) (s : List ℕ) (a : Answer) → Comes c id s a
+    → needed (a .controller .session) ≤ needed (c .session)
 unfolding needed sessionMoved messageOf appliedOf
 frame-needs c id s a (Left u h n) = let e : needed (a .controller .session) ≡ needed (c .session) = ap needed h in omega (arith, e)
 frame-needs c id s a (Took m says may h) =
@@ -150,7 +151,8 @@ waiting-needs s st false true = next-on s st
 waiting-needs s st false false = omega (arith, next-farewell s)
 
 -- Stopping and Error end to Idle at count 600
-closing-needs : (s : Session) (st : State) (over : Bool) → next s (cond over turn.End (turn.On st)) ≤ needs st (s .count) + 1
+closing-needs : (s : Session) (st : State) (over : Bool)
+    → next s (cond over turn.End (turn.On st)) ≤ needs st (s .count) + 1
 closing-needs s st true = omega (arith, next-end s)
 closing-needs s st false = next-on s st
 
@@ -189,7 +191,8 @@ module _ (x : Settings) (r : Readings) (c : Cells) (s : Session) where
   tick-needs = turn-needs (s .state)
 
 -- ---- any call, any list of calls
-paper-needs : (c : Controller) (r : Readings) (v : List ℕ) (t : List ℤ) → needed (paperNext c r v t .session) ≤ needed (c .session) + 1
+paper-needs : (c : Controller) (r : Readings) (v : List ℕ) (t : List ℤ)
+    → needed (paperNext c r v t .session) ≤ needed (c .session) + 1
 unfolding paperNext
 paper-needs c r v t = tick-needs (c .settings) r (cellsOf v t) (c .session)
 
@@ -198,7 +201,8 @@ unfolding readInto freshOf needed needs
 read-needs (read.Read x) c = omega arith
 read-needs (read.Refused n) c = omega arith
 
-call-needs : (c : Controller) (e : Call) → needed (after c e .session) ≤ needed (c .session) + cond (isAcceptedTick e) 1 0
+call-needs : (c : Controller) (e : Call)
+    → needed (after c e .session) ≤ needed (c .session) + cond (isAcceptedTick e) 1 0
 unfolding after isAcceptedTick
 call-needs c (Receive id s) =
     let h : needed (frameTo c id s .controller .session) ≤ needed (c .session) = frame-needs c id s (frameTo c id s) (came c id s) in

@@ -132,7 +132,8 @@ tick = Tick quietReadings (330 ∷ []) (pos 20 ∷ []) (zeros 117)
 pub eight : List Call
 eight = tick ∷ cvm-aa ∷ tick ∷ tick ∷ tick ∷ tick ∷ tick ∷ tick ∷ cmp ∷ tick ∷ crm-aa ∷ []
 
-on : (k : Stretch) (n b : ℕ) (es : List Call) → b < silenceLimit → Follows ours 0x56 offer k (n + 1) (b + 1) es → Follows ours 0x56 offer k n b (tick ∷ es)
+on : (k : Stretch) (n b : ℕ) (es : List Call) → b < silenceLimit → Follows ours 0x56 offer k (n + 1) (b + 1) es
+    → Follows ours 0x56 offer k n b (tick ∷ es)
 on k n b es l f = Ticks {b = b} (such-a-tick .0) (such-a-tick .1) (omega (arith, l)) f
 
 follows-eight : Follows ours 0x56 offer UntilCvm 0 0 (reaching 0x56 eight)

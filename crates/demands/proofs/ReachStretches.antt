@@ -38,7 +38,8 @@ pub data At (o : Offer) : Stretch → ℕ → State → ℕ → Type 0 where
   AtOffered : {n : ℕ} → At o UntilCvm n Offered n
   AtUnverified : {n : ℕ} → At o UntilVerified n Unverified n
   AtParameters : {n : ℕ} → At o UntilCmp n Parameters n
-  AtReady : {n m : ℕ} {maximum : TenthAmps} {accepted : Bool} → firstEcp + 1 ≤ n → At o UntilCmp n (Ready accepted maximum) m
+  AtReady : {n m : ℕ} {maximum : TenthAmps} {accepted : Bool} → firstEcp + 1 ≤ n
+      → At o UntilCmp n (Ready accepted maximum) m
   AtLast : {n : ℕ} → At o UntilCrm n (Ready true (stationMaximum o)) n
 
 pub at-next : (o : Offer) (k : Stretch) (n m : ℕ) (st : State) → At o k n st m → At o k (n + 1) st (m + 1)
@@ -57,7 +58,8 @@ at-open o k n m st (AtReady l) = refl
 at-open o k n m st AtLast = refl
 
 -- a tick that wants charge
-pub at-tick : (o : Offer) (k : Stretch) (n m : ℕ) (st : State) → At o k n st m → (x : Settings) (r : Readings) (c : Cells) (a b : ℕ)
+pub at-tick : (o : Offer) (k : Stretch) (n m : ℕ) (st : State) → At o k n st m
+    → (x : Settings) (r : Readings) (c : Cells) (a b : ℕ)
     → leb silenceLimit b ≡ false → wantedOf r ≡ true → literalTick x r c (mk a b m st) ≡ mk a (b + 1) (m + 1) st
 unfolding literalTick literalAdvance literalIn grown turnedBy turnIn turnOf waitingOf
 at-tick o k n m st AtOffered x r c a b h w = rw (h, w)
@@ -100,7 +102,8 @@ module _ (x : Settings) (a : ℕ) (o : Offer) where
     cvm-early n true w h = absurd (false≢true h)
     cvm-early n false w h = stays-out UntilCvm n n Offered AtOffered
 
-    in-offered : (n : ℕ) (w : ChargeMessage) → besides UntilCvm n w ≡ true → Word UntilCvm n (comes n Offered (inOffered n w))
+    in-offered : (n : ℕ) (w : ChargeMessage) → besides UntilCvm n w ≡ true
+        → Word UntilCvm n (comes n Offered (inOffered n w))
     unfolding besides inOffered
     in-offered n Cim h = stays-heard UntilCvm n n Offered AtOffered
     in-offered n (Cvm v) h = cvm-early n (ltb 0 n) (cond v (Enter Parameters) (Enter Unverified)) h
@@ -110,7 +113,8 @@ module _ (x : Settings) (a : ℕ) (o : Offer) where
     in-offered n (Cst v) h = absurd (false≢true h)
     in-offered n Cem h = absurd (false≢true h)
 
-    in-unverified : (n : ℕ) (w : ChargeMessage) → besides UntilVerified n w ≡ true → Word UntilVerified n (comes n Unverified (inUnverified w))
+    in-unverified : (n : ℕ) (w : ChargeMessage) → besides UntilVerified n w ≡ true
+        → Word UntilVerified n (comes n Unverified (inUnverified w))
     unfolding besides inUnverified
     in-unverified n Cim h = absurd (false≢true h)
     in-unverified n (Cvm true) h = absurd (false≢true h)
@@ -125,12 +129,14 @@ module _ (x : Settings) (a : ℕ) (o : Offer) where
     cvm-parameters n true = stays-heard UntilCmp n n Parameters AtParameters
     cvm-parameters n false = stays-out UntilCmp n n Parameters AtParameters
 
-    cmp-parameters : (n : ℕ) (p : Offer) (g : Bool) → ltb firstEcp n ≡ g → Word UntilCmp n (comes n Parameters (cond g (readyOf x p) OutOfStep))
+    cmp-parameters : (n : ℕ) (p : Offer) (g : Bool) → ltb firstEcp n ≡ g
+        → Word UntilCmp n (comes n Parameters (cond g (readyOf x p) OutOfStep))
     unfolding readyOf
     cmp-parameters n p true e = enters UntilCmp n n Parameters (Ready (acceptedOf x p) (stationMaximum p)) (AtReady (ltb-true firstEcp n e))
     cmp-parameters n p false e = stays-out UntilCmp n n Parameters AtParameters
 
-    in-parameters : (n : ℕ) (w : ChargeMessage) → besides UntilCmp n w ≡ true → Word UntilCmp n (comes n Parameters (inParameters x n w))
+    in-parameters : (n : ℕ) (w : ChargeMessage) → besides UntilCmp n w ≡ true
+        → Word UntilCmp n (comes n Parameters (inParameters x n w))
     unfolding besides inParameters
     in-parameters n Cim h = absurd (false≢true h)
     in-parameters n (Cvm v) h = cvm-parameters n v
@@ -146,7 +152,8 @@ module _ (x : Settings) (a : ℕ) (o : Offer) where
     crm-stays k n m maximum accepted true p = stays-heard k n m (Ready accepted maximum) p
     crm-stays k n m maximum accepted false p = stays-out k n m (Ready accepted maximum) p
 
-    in-ready : (n m : ℕ) (maximum : TenthAmps) (accepted : Bool) (w : ChargeMessage) → firstEcp + 1 ≤ n → besides UntilCmp n w ≡ true
+    in-ready : (n m : ℕ) (maximum : TenthAmps) (accepted : Bool) (w : ChargeMessage) → firstEcp + 1 ≤ n
+        → besides UntilCmp n w ≡ true
         → Word UntilCmp n (comes m (Ready accepted maximum) (inReady x accepted maximum m w))
     unfolding besides inReady readyOf crmInReady
     in-ready n m maximum accepted Cim l h = absurd (false≢true h)
@@ -168,7 +175,8 @@ module _ (x : Settings) (a : ℕ) (o : Offer) where
     crm-last n true false h = stays-out UntilCrm n n lastReady AtLast
     crm-last n false g h = crm-stays UntilCrm n n (stationMaximum o) true g AtLast
 
-    in-last : (n : ℕ) (w : ChargeMessage) → besides UntilCrm n w ≡ true → Word UntilCrm n (comes n lastReady (inReady x true (stationMaximum o) n w))
+    in-last : (n : ℕ) (w : ChargeMessage) → besides UntilCrm n w ≡ true
+        → Word UntilCrm n (comes n lastReady (inReady x true (stationMaximum o) n w))
     unfolding besides inReady crmInReady
     in-last n Cim h = absurd (false≢true h)
     in-last n (Cvm v) h = stays-out UntilCrm n n lastReady AtLast
@@ -193,7 +201,8 @@ module _ (x : Settings) (a : ℕ) (o : Offer) where
     pub is : z ≡ mk a silence m st
     pub quiet : silence ≤ b
 
-  pub at-cim : (k : Stretch) (n b m : ℕ) (st : State) → At o k n st m → Still b m st (sessionAfter a (mk a b m st) (outcomeOf x st m Cim))
+  pub at-cim : (k : Stretch) (n b m : ℕ) (st : State) → At o k n st m
+      → Still b m st (sessionAfter a (mk a b m st) (outcomeOf x st m Cim))
   unfolding outcomeOf inOffered inUnverified inParameters inReady sessionAfter
   at-cim k n b m st AtOffered = record { silence = 0; is = refl; quiet = omega arith }
   at-cim k n b m st AtUnverified = record { silence = b; is = refl; quiet = omega arith }

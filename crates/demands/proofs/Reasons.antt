@@ -105,7 +105,8 @@ module _ (x : Settings) (r : Readings) (c : Cells) (s : Session) where
   close-why st to true h = refl
   close-why st to false h = h
 
-  turn-why : (n silence : ℕ) (st : State) → LeadsTo x r c st (whyIn x r c n silence st) (reached (turnOf x r c st n silence))
+  turn-why : (n silence : ℕ) (st : State)
+      → LeadsTo x r c st (whyIn x r c n silence st) (reached (turnOf x r c st n silence))
   unfolding whyIn LeadsTo GoesOnAs reached turnedBy literalAdvance literalIn grown counted turnOf waitingOf chargingOf stopsOf phaseTurn stoppingOf errorOf
   turn-why n silence Idle = refl
   turn-why n silence Offered = wait-why Offered (leb silenceLimit silence) (wantedOf r) refl

@@ -101,7 +101,8 @@ module _ (x : Settings) (n : ℕ) where
   outcome-asks st o MarksIt = omega arith
   outcome-asks st o EndsIt = omega arith
 
-  after-asks : (source : ℕ) (s : Session) (o : Outcome) → requestIn (s .state) ≤ x .limits .current .0 → asksBy o ≤ x .limits .current .0
+  after-asks : (source : ℕ) (s : Session) (o : Outcome) → requestIn (s .state) ≤ x .limits .current .0
+      → asksBy o ≤ x .limits .current .0
       → requestIn (sessionAfter source s o .state) ≤ x .limits .current .0
   unfolding asksBy sessionAfter requestIn
   after-asks source s outcome.Refuse h k = h
@@ -121,7 +122,8 @@ lower : (m : ℕ) (t : Bool) (a b : PhaseAfter) → phaseAsks a ≤ m → phaseA
 lower m true a b h k = h
 lower m false a b h k = k
 
-drive-asks : (m : ℕ) (request : TenthAmps) (cycle time : ℕ) (full : Bool) → request .0 ≤ m → phaseAsks (driveRules request cycle time full) ≤ m
+drive-asks : (m : ℕ) (request : TenthAmps) (cycle time : ℕ) (full : Bool) → request .0 ≤ m
+    → phaseAsks (driveRules request cycle time full) ≤ m
 unfolding phaseAsks driveRules requestOf
 drive-asks m request cycle time full h = lower m (leb driveLimit time) _ _ (omega arith) (lower m full _ _ h h)
 
@@ -233,7 +235,8 @@ unfolding readInto freshOf requestIn
 read-within (read.Read x) c h = omega arith
 read-within (read.Refused n) c h = h
 
-tick-within : (c : Controller) (r : Readings) (v : List ℕ) (t : List ℤ) (b : Bool) → Within c → Within (cond b (paperNext c r v t) c)
+tick-within : (c : Controller) (r : Readings) (v : List ℕ) (t : List ℤ) (b : Bool) → Within c
+    → Within (cond b (paperNext c r v t) c)
 unfolding paperNext
 tick-within c r v t true h = omega (arith, h, tick-asks (c .settings) r (cellsOf v t) (c .session))
 tick-within c r v t false h = h

@@ -69,11 +69,13 @@ module _ (x : Settings) where
         absurd (false≢true (sym e ∙ (ap (λ (n : ℕ). eqb n (pfOf ECR)) (sym (pf-sent (toTarget pf priority) station (x .own) (omega arith) (omega arith) k o)) ∙ z)))
 
   -- an ECR, by the words that it is made of
-  made-within : (station v i mode : ℕ) → v ≤ x .limits .pack .0 → 4000 ≤ i + x .limits .current .0 → AsksWithin x (ecrFrame x station v i mode)
+  made-within : (station v i mode : ℕ) → v ≤ x .limits .pack .0 → 4000 ≤ i + x .limits .current .0
+      → AsksWithin x (ecrFrame x station v i mode)
   unfolding ecrFrame
   made-within station v i mode h j = record { current = rw (word-back i) j; voltage = rw (word-back v) h }
 
-  ecr-within : (station : ℕ) (c : Cells) (p : Phase) → requestOf p ≤ x .limits .current .0 → AsksWithin x (ecrOf x station c p)
+  ecr-within : (station : ℕ) (c : Cells) (p : Phase) → requestOf p ≤ x .limits .current .0
+      → AsksWithin x (ecrOf x station c p)
   unfolding ecrOf requestOf holdVoltage
   ecr-within station c (Drive request cycle time) h = made-within station 0 (4000 - request .0) 0x02 (omega arith) (omega arith)
   ecr-within station c (Rest request cycle time) h = made-within station 0 4000 0x02 (omega arith) (omega arith)
@@ -137,7 +139,8 @@ module _ (x : Settings) where
     in-asks n Error h = fifth-asks n _ (each-one Asks _ eem-asks)
 
   turn-sends : (r : Readings) (c : Cells) (s : Session) (t : Turn) → s .station < 256 → x .own < 256
-      → requestIn (turnedBy s t .state) ≤ x .limits .current .0 → Each Asks (framesOf x r c (s .station) t (turnedBy s t))
+      → requestIn (turnedBy s t .state) ≤ x .limits .current .0
+      → Each Asks (framesOf x r c (s .station) t (turnedBy s t))
   unfolding framesOf turnedBy framesIn
   turn-sends r c s (turn.On st) k o h = in-asks r c (s .station) k o (s .count) st h
   turn-sends r c s (turn.Enter st) k o h = in-asks r c (s .station) k o 0 st h
@@ -174,14 +177,16 @@ module _ (x : Settings) where
 
 -- ---- any call
 module _ (c : Controller) (b : Bytes c) (h : Within c) where
-  tick-asks : (r : Readings) (v : List ℕ) (t : List ℤ) → tablesFit v t ≡ true → AllAskWithin (c .settings) (tickFrames c r v t)
+  tick-asks : (r : Readings) (v : List ℕ) (t : List ℤ) → tablesFit v t ≡ true
+      → AllAskWithin (c .settings) (tickFrames c r v t)
   unfolding chargeFrames
   tick-asks r v t f =
       as-told (c .settings) (tickFrames c r v t)
       (all-asks (c .settings) (tickFrames c r v t)
       (rw (charge-frames-told c b r v t f) (charge-sends (c .settings) r (cellsOf v t) (c .session) (b .station) (b .own) h)))
 
-  tick-at : (r : Readings) (v : List ℕ) (t : List ℤ) (l m n room : ℕ) (new old : List ℕ) (took : Bool) → accepted c r v t room ≡ took
+  tick-at : (r : Readings) (v : List ℕ) (t : List ℤ) (l m n room : ℕ) (new old : List ℕ) (took : Bool)
+      → accepted c r v t room ≡ took
       → AllAskWithin (c .settings) (framesSeen (cond took (Gave 0 l (tickFrames c r v t) new) (Gave m n [] old)))
   unfolding framesSeen AllAskWithin accepted
   tick-at r v t l m n room new old true e = tick-asks r v t (fine r v t room (eqb-true (tickNumber r v t room) 0 e) .fits)

@@ -130,7 +130,8 @@ module _ (These : Row → Type 0) (ten : Ten These) (x : Settings) (r : Readings
   unfolding esmOf
   esm-made station = Make ESM (ten .esm) _ _ _ _ _ _ _ _
 
-  est-made : (station : ℕ) (acknowledged : Bool) (est : Est) → Made These station (x .own) (estBytes x station acknowledged est)
+  est-made : (station : ℕ) (acknowledged : Bool) (est : Est)
+      → Made These station (x .own) (estBytes x station acknowledged est)
   unfolding estBytes estFrame
   est-made station acknowledged Awaited = Make EST (ten .est) _ _ _ _ _ _ _ _
   est-made station acknowledged (Fixed first second) = Make EST (ten .est) _ _ _ _ _ _ _ _
@@ -211,7 +212,8 @@ module _ (These : Row → Type 0) (five : Five These) (own : ℕ) (versions : Ve
       let P : Frame → Type 0 = Made These 0 own in
       each-cons P _ _ ps-made (each-cons P _ _ cvs-made (each-cons P _ _ cts-made (each-two P _ _ fws-made ec-made)))
 
-pub broadcast-made : (These : Row → Type 0) → Five These → (tick own : ℕ) (versions : Versions) (r : Readings) (c : Cells)
+pub broadcast-made : (These : Row → Type 0) → Five These
+    → (tick own : ℕ) (versions : Versions) (r : Readings) (c : Cells)
     → Each (Made These 0 own) (broadcastAt tick own versions r c)
 broadcast-made These five tick own versions r c =
     each-if (Made These 0 own) (dueAt tick) _ [] (five-made These five own versions (heartbeatAt tick) r c) (each-none (Made These 0 own))
@@ -224,7 +226,8 @@ module _ (These : Row → Type 0) (own : ℕ) (v : List ℕ) (t : List ℤ) wher
   group-made source Voltages group h = Make (groupRow Voltages group) h _ _ _ _ _ _ _ _
   group-made source Temperatures group h = Make (groupRow Temperatures group) h _ _ _ _ _ _ _ _
 
-  pub query-made : (q : Query) → These (groupRow (q .kind) (q .group)) → Made These (q .source) own (groupFrame own v t q)
+  pub query-made : (q : Query) → These (groupRow (q .kind) (q .group))
+      → Made These (q .source) own (groupFrame own v t q)
   unfolding groupFrame
   query-made q h = group-made (q .source) (q .kind) (q .group) h
 
@@ -258,7 +261,8 @@ tick-eight c r v t =
     (cells-eight (c .settings .own) v t (waiting (c .queries))))
 
 -- the identifier of a record is the frame's
-four-back : (n : ℕ) → n % 256 + n / 0x100 % 256 * 0x100 + n / 0x1_0000 % 256 * 0x1_0000 + n / 0x100_0000 * 0x100_0000 ≡ n
+four-back : (n : ℕ)
+    → n % 256 + n / 0x100 % 256 * 0x100 + n / 0x1_0000 % 256 * 0x1_0000 + n / 0x100_0000 * 0x100_0000 ≡ n
 four-back n =
     let a : n / 0x1_0000 ≡ n / 0x100 / 256 = omega arith in
     let b : n / 0x100_0000 ≡ n / 0x1_0000 / 256 = omega arith in omega arith
@@ -277,7 +281,8 @@ frames-back [] rest h = refl
 frames-back (f ∷ fs) rest h =
     rw (append-assoc (frameRecord f) (recordsOf fs) rest, frame-back f (recordsOf fs ++ rest) (h .0), rest-back f (recordsOf fs ++ rest), frames-back fs rest (h .1))
 
-pub frames-written : (fs : List Frame) (rest : List ℕ) → Each Eight fs → framesWritten (recordSize * length fs) (recordsOf fs ++ rest) ≡ fs
+pub frames-written : (fs : List Frame) (rest : List ℕ) → Each Eight fs
+    → framesWritten (recordSize * length fs) (recordsOf fs ++ rest) ≡ fs
 unfolding framesWritten
 frames-written fs rest h =
     let n : recordSize * length fs / recordSize ≡ length fs = omega arith in rw n (frames-back fs rest h)

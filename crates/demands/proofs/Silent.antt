@@ -100,7 +100,8 @@ early (Charging p) = true
 early (Stopping a e) = false
 early Error = false
 
-next-on : (s : Session) (st : State) → early st ≡ true → next s (turn.On st) ≡ closingLimit + 1 + (silenceLimit - (s .silence + 1))
+next-on : (s : Session) (st : State) → early st ≡ true
+    → next s (turn.On st) ≡ closingLimit + 1 + (silenceLimit - (s .silence + 1))
 unfolding next left leftIn early literalAdvance literalIn grown turnedBy
 next-on s Idle e = absurd (false≢true e)
 next-on s Offered e = refl
@@ -127,7 +128,8 @@ next-end : (s : Session) → next s turn.End ≡ 0
 unfolding next left leftIn literalAdvance literalIn turnedBy
 next-end s = refl
 
-next-stopping : (s : Session) (a : Bool) (e : Est) → next s (turn.On (Stopping a e)) ≡ 1 + (closingLimit - (s .count + 1))
+next-stopping : (s : Session) (a : Bool) (e : Est)
+    → next s (turn.On (Stopping a e)) ≡ 1 + (closingLimit - (s .count + 1))
 unfolding next left leftIn literalAdvance literalIn counted turnedBy
 next-stopping s a e = refl
 
@@ -135,22 +137,26 @@ next-in-error : (s : Session) → next s (turn.On Error) ≡ 1 + (closingLimit -
 unfolding next left leftIn literalAdvance literalIn counted turnedBy
 next-in-error s = refl
 
-falls-waiting : (r : Readings) (s : Session) (st : State) → early st ≡ true → next s (waitingOf r (s .silence) st) < closingLimit + 1 + (silenceLimit - s .silence)
+falls-waiting : (r : Readings) (s : Session) (st : State) → early st ≡ true
+    → next s (waitingOf r (s .silence) st) < closingLimit + 1 + (silenceLimit - s .silence)
 unfolding waitingOf
 falls-waiting r s st e = go (leb silenceLimit (s .silence)) refl (wantedOf r)
   where
-    go : (t : Bool) → leb silenceLimit (s .silence) ≡ t → (w : Bool) → next s (cond t (turn.Enter Error) (cond w (turn.On st) turn.Farewell)) < closingLimit + 1 + (silenceLimit - s .silence)
+    go : (t : Bool) → leb silenceLimit (s .silence) ≡ t → (w : Bool)
+        → next s (cond t (turn.Enter Error) (cond w (turn.On st) turn.Farewell)) < closingLimit + 1 + (silenceLimit - s .silence)
     go true h w = omega (arith, next-error s)
     go false h true = omega (arith, next-on s st e, leb-false silenceLimit (s .silence) h)
     go false h false = omega (arith, next-farewell s)
 
 module _ (x : Settings) (r : Readings) (c : Cells) (s : Session) where
-  falls-phase : (q : PhaseAfter) → leb silenceLimit (s .silence) ≡ false → next s (phaseOn x r c q) < closingLimit + 1 + (silenceLimit - s .silence)
+  falls-phase : (q : PhaseAfter) → leb silenceLimit (s .silence) ≡ false
+      → next s (phaseOn x r c q) < closingLimit + 1 + (silenceLimit - s .silence)
   unfolding phaseOn early
   falls-phase (phase.On p) h = omega (arith, next-on s (Charging p) refl, leb-false silenceLimit (s .silence) h)
   falls-phase (phase.Stop k) h = omega (arith, next-stop x r c s k)
 
-  falls-charging : (p : Phase) → next s (chargingOf x r c (s .silence) p) < closingLimit + 1 + (silenceLimit - s .silence)
+  falls-charging : (p : Phase)
+      → next s (chargingOf x r c (s .silence) p) < closingLimit + 1 + (silenceLimit - s .silence)
   unfolding chargingOf stopsOf phaseTurn
   falls-charging p = go (leb silenceLimit (s .silence)) refl (wantedOf r) (currentAbove x r) (packFull x r)
     where
@@ -166,7 +172,8 @@ module _ (x : Settings) (r : Readings) (c : Cells) (s : Session) where
   unfolding stoppingOf
   falls-stopping a e = go (leb closingLimit (s .count)) refl
     where
-      go : (t : Bool) → leb closingLimit (s .count) ≡ t → next s (cond t turn.End (turn.On (Stopping a (estThen x r c e)))) < 1 + (closingLimit - s .count)
+      go : (t : Bool) → leb closingLimit (s .count) ≡ t
+          → next s (cond t turn.End (turn.On (Stopping a (estThen x r c e)))) < 1 + (closingLimit - s .count)
       go true h = omega (arith, next-end s)
       go false h = omega (arith, next-stopping s a (estThen x r c e), leb-false closingLimit (s .count) h)
 
@@ -174,11 +181,13 @@ module _ (x : Settings) (r : Readings) (c : Cells) (s : Session) where
   unfolding errorOf
   falls-error = go (leb closingLimit (s .count)) refl
     where
-      go : (t : Bool) → leb closingLimit (s .count) ≡ t → next s (cond t turn.End (turn.On Error)) < 1 + (closingLimit - s .count)
+      go : (t : Bool) → leb closingLimit (s .count) ≡ t
+          → next s (cond t turn.End (turn.On Error)) < 1 + (closingLimit - s .count)
       go true h = omega (arith, next-end s)
       go false h = omega (arith, next-in-error s, leb-false closingLimit (s .count) h)
 
-  falls-in : (st : State) → isIdle st ≡ false → next s (turnOf x r c st (s .count) (s .silence)) < leftIn st (s .silence) (s .count)
+  falls-in : (st : State) → isIdle st ≡ false
+      → next s (turnOf x r c st (s .count) (s .silence)) < leftIn st (s .silence) (s .count)
   unfolding turnOf leftIn isIdle early
   falls-in Idle o = absurd (false≢true (sym o))
   falls-in Offered o = falls-waiting r s Offered refl
@@ -211,7 +220,8 @@ read-falls (read.Read x) c = omega arith
 read-falls (read.Refused n) c = omega arith
 
 -- one call by which nothing is said that is heeded: if an accepted tick, less is left, else no more
-call-falls : (c : Controller) (e : Call) → noSession c ≡ false → Unheeded c e → cond (isAcceptedTick e) 1 0 + left (after c e .session) ≤ left (c .session)
+call-falls : (c : Controller) (e : Call) → noSession c ≡ false → Unheeded c e
+    → cond (isAcceptedTick e) 1 0 + left (after c e .session) ≤ left (c .session)
 unfolding isAcceptedTick after
 call-falls c (Receive id s) o u = same (frameTo c id s .controller .session) (unheeded-kept c id s o u)
   where
@@ -253,7 +263,8 @@ still-call c (Tick r v t old) q = tt
 still-call c (Write old) q = tt
 still-call c (Read s) q = tt
 
-still : (st : ℕ) (es : List Call) (c : Controller) → (noSession c ≡ false → c .session .station ≡ st) → sendsNothing st es ≡ true → Silence c es
+still : (st : ℕ) (es : List Call) (c : Controller) → (noSession c ≡ false → c .session .station ≡ st)
+    → sendsNothing st es ≡ true → Silence c es
 unfolding sendsNothing Silence
 still st [] c k q = tt
 still st (e ∷ es) c k q = λ o. (
@@ -280,7 +291,8 @@ module _ (x : Settings) (r : Readings) (c : Cells) (a b n : ℕ) where
   unfolding literalTick literalAdvance literalIn counted turnedBy turnIn turnOf waitingOf
   late-tick h = rw h
 
-  offered-tick : leb silenceLimit b ≡ false → wantedOf r ≡ true → literalTick x r c (mk a b n Offered) ≡ mk a (b + 1) (n + 1) Offered
+  offered-tick : leb silenceLimit b ≡ false → wantedOf r ≡ true
+      → literalTick x r c (mk a b n Offered) ≡ mk a (b + 1) (n + 1) Offered
   unfolding literalTick literalAdvance literalIn grown turnedBy turnIn turnOf waitingOf
   offered-tick h w = rw (h, w)
 
@@ -288,7 +300,8 @@ module _ (r : Readings) (v : List ℕ) (t : List ℤ) (old : List ℕ) (taken : 
   abbrev tick : Call
   tick = Tick r v t old
 
-  ticks : (c : Controller) (s : Session) → c .session ≡ s → after c tick .session ≡ literalTick (c .settings) r (cellsOf v t) s
+  ticks : (c : Controller) (s : Session) → c .session ≡ s
+      → after c tick .session ≡ literalTick (c .settings) r (cellsOf v t) s
   unfolding after paperNext
   ticks c s h = rw (taken, h)
 
@@ -300,7 +313,8 @@ module _ (r : Readings) (v : List ℕ) (t : List ℤ) (old : List ℕ) (taken : 
   unfolding noSession isIdle
   open-offered c a b n h = rw h
 
-  lives-error : (k : ℕ) (c : Controller) (a b n : ℕ) → c .session ≡ mk a b n Error → n + k ≤ closingLimit → endsWithin c (repeated k tick) ≡ false
+  lives-error : (k : ℕ) (c : Controller) (a b n : ℕ) → c .session ≡ mk a b n Error → n + k ≤ closingLimit
+      → endsWithin c (repeated k tick) ≡ false
   unfolding endsWithin repeated
   lives-error zero c a b n h l = open-error c a b n h
   lives-error (suc k) c a b n h l =
@@ -308,7 +322,8 @@ module _ (r : Readings) (v : List ℕ) (t : List ℤ) (old : List ℕ) (taken : 
       (lives-error k (after c tick) a b (n + 1)
       (ticks c (mk a b n Error) h ∙ error-tick (c .settings) r (cellsOf v t) a b n (lt-leb closingLimit n (omega arith))) (omega arith))
 
-  lives-offered : (k : ℕ) (c : Controller) (a b n : ℕ) → c .session ≡ mk a b n Offered → b ≤ silenceLimit → b + k ≤ silenceLimit + closingLimit → endsWithin c (repeated k tick) ≡ false
+  lives-offered : (k : ℕ) (c : Controller) (a b n : ℕ) → c .session ≡ mk a b n Offered → b ≤ silenceLimit
+      → b + k ≤ silenceLimit + closingLimit → endsWithin c (repeated k tick) ≡ false
   unfolding endsWithin repeated
   lives-offered zero c a b n h l g = open-offered c a b n h
   lives-offered (suc k) c a b n h l g =
@@ -325,7 +340,8 @@ module _ (r : Readings) (v : List ℕ) (t : List ℤ) (old : List ℕ) (taken : 
           ih (ticks c (mk a b n Offered) h ∙ offered-tick (c .settings) r (cellsOf v t) a b n e wants) (omega (arith, leb-false silenceLimit b e)) (omega arith)
 
   -- an Offered session that has just heeded its station lives through 800 accepted ticks that want charge
-  pub not-within-800 : (c : Controller) (a n : ℕ) → c .session ≡ mk a 0 n Offered → endsWithin c (repeated 800 tick) ≡ false
+  pub not-within-800 : (c : Controller) (a n : ℕ) → c .session ≡ mk a 0 n Offered
+      → endsWithin c (repeated 800 tick) ≡ false
   not-within-800 c a n h = lives-offered 800 c a 0 n h (omega arith) (omega arith)
 
 -- there is such a tick: one cell of 3.30 V at 20 F, a buffer of 117 bytes, all readings 0 but 80 hex in status byte two

@@ -104,7 +104,8 @@ module _ (x : Settings) (source : ℕ) (s : Session) (n : ℕ) where
   unfed-stopping a e (Cst b) h = absurd (false≢true (sym h))
   unfed-stopping a e Cem h = absurd (false≢true (sym h))
 
-  fits-stopping : (a : Bool) (e : Est) (m : ChargeMessage) → ltb 0 n ≡ true → Fits (feeds (Stopping a e) m) (inStopping e n m)
+  fits-stopping : (a : Bool) (e : Est) (m : ChargeMessage) → ltb 0 n ≡ true
+      → Fits (feeds (Stopping a e) m) (inStopping e n m)
   unfolding Fits silenceAfter sessionAfter inStopping feeds
   fits-stopping a e Cim g = refl
   fits-stopping a e (Cvm b) g = refl
@@ -133,7 +134,8 @@ module _ (x : Settings) (source : ℕ) (s : Session) (n : ℕ) where
   silence-if {t} o f h = subst (λ (b : Bool). Fits b o) h f
 
   -- a message that the session does not heed is refused
-  pub unfed-refused : (st : State) (m : ChargeMessage) → isIdle st ≡ false → feeds st m ≡ false → outcomeOf x st n m ≡ Refuse
+  pub unfed-refused : (st : State) (m : ChargeMessage) → isIdle st ≡ false → feeds st m ≡ false
+      → outcomeOf x st n m ≡ Refuse
   unfolding isIdle outcomeOf
   unfed-refused Idle m o h = absurd (false≢true (sym o))
   unfed-refused Offered m o h = refused-if (fits-offered m) h
@@ -159,7 +161,8 @@ module _ (x : Settings) (source : ℕ) (s : Session) (n : ℕ) where
 
 -- ---- over frames
 -- what the station says in vain leaves the session as it was
-said-in-vain : (c : Controller) (m : ChargeMessage) (id : ℕ) (s : List ℕ) → noSession c ≡ false → Says (c .settings) (c .session .station) m id s
+said-in-vain : (c : Controller) (m : ChargeMessage) (id : ℕ) (s : List ℕ) → noSession c ≡ false
+    → Says (c .settings) (c .session .station) m id s
     → feeds (c .session .state) m ≡ false → frameTo c id s .controller .session ≡ c .session
 unfolding noSession messageOf appliedOf sessionAfter
 said-in-vain c m id s o says h =
@@ -167,7 +170,8 @@ said-in-vain c m id s o says h =
     ∙ ap (sessionAfter (c .session .station) (c .session))
     (unfed-refused (c .settings) (c .session .station) (c .session) (c .session .count) (c .session .state) m o h)
 
-unheeded-spoken : (c : Controller) (id : ℕ) (s : List ℕ) → noSession c ≡ false → Unheeded c (Receive id s) → Spoken c id s (frameTo c id s)
+unheeded-spoken : (c : Controller) (id : ℕ) (s : List ℕ) → noSession c ≡ false → Unheeded c (Receive id s)
+    → Spoken c id s (frameTo c id s)
     → frameTo c id s .controller .session ≡ c .session
 unfolding Unheeded
 unheeded-spoken c id s o u (Unsaid k) = k
@@ -179,6 +183,7 @@ pub unheeded-kept : (c : Controller) (id : ℕ) (s : List ℕ) → noSession c �
 unheeded-kept c id s o u = unheeded-spoken c id s o u (spoken c id s o)
 
 -- ---- a station that sends nothing
-pub still-unheeded : (c : Controller) (id : ℕ) (s : List ℕ) → fromStation (c .session .station) id ≡ false → Unheeded c (Receive id s)
+pub still-unheeded : (c : Controller) (id : ℕ) (s : List ℕ) → fromStation (c .session .station) id ≡ false
+    → Unheeded c (Receive id s)
 unfolding Unheeded
 still-unheeded c id s h m says = absurd (false≢true (sym h ∙ says-from (c .settings) (c .session .station) m id s says))

@@ -126,7 +126,8 @@ module _ (among : State → Bool) (these : ChargeMessage → Bool)
       deaf (c .session .state) m (d .state)
       (f m (subst (λ (z : ℕ). Says x z m id s) (d .station o) (subst (λ (y : Settings). Says y (c .session .station) m id s) (d .settings) says)))
 
-  deaf-frame : (x : Settings) (st : ℕ) (c : Controller) (id : ℕ) (s : List ℕ) → Deaf x st c → noSession c ≡ false → Unheeded c (Receive id s)
+  deaf-frame : (x : Settings) (st : ℕ) (c : Controller) (id : ℕ) (s : List ℕ) → Deaf x st c → noSession c ≡ false
+      → Unheeded c (Receive id s)
       → Deaf x st (after c (Receive id s))
   unfolding after
   deaf-frame x st c id s d o u =
@@ -142,12 +143,14 @@ module _ (among : State → Bool) (these : ChargeMessage → Bool)
   state-tick c r v t true h = stays-tick (c .settings) r (cellsOf v t) (c .session) h
   state-tick c r v t false h = h
 
-  settings-tick : (c : Controller) (r : Readings) (v : List ℕ) (t : List ℤ) (b : Bool) → cond b (paperNext c r v t) c .settings ≡ c .settings
+  settings-tick : (c : Controller) (r : Readings) (v : List ℕ) (t : List ℤ) (b : Bool)
+      → cond b (paperNext c r v t) c .settings ≡ c .settings
   unfolding paperNext
   settings-tick c r v t true = refl
   settings-tick c r v t false = refl
 
-  deaf-tick : (x : Settings) (st : ℕ) (c : Controller) (r : Readings) (v : List ℕ) (t : List ℤ) (old : List ℕ) → Deaf x st c → noSession c ≡ false
+  deaf-tick : (x : Settings) (st : ℕ) (c : Controller) (r : Readings) (v : List ℕ) (t : List ℤ) (old : List ℕ)
+      → Deaf x st c → noSession c ≡ false
       → Deaf x st (after c (Tick r v t old))
   unfolding after
   deaf-tick x st c r v t old d o =
@@ -168,7 +171,8 @@ module _ (among : State → Bool) (these : ChargeMessage → Bool)
   either-read (read.Read y) c es h = over-silence (freshOf y) es refl
   either-read (read.Refused n) c es h = h
 
-  deaf-silence : (x : Settings) (st : ℕ) (es : List Call) (c : Controller) → Deaf x st c → SaysOnly these x st es → Silence c es
+  deaf-silence : (x : Settings) (st : ℕ) (es : List Call) (c : Controller) → Deaf x st c → SaysOnly these x st es
+      → Silence c es
   unfolding SaysOnly Silence Unheeded after
   deaf-silence x st [] c d f = tt
   deaf-silence x st (Receive id s ∷ es) c d f = λ o.
@@ -179,7 +183,8 @@ module _ (among : State → Bool) (these : ChargeMessage → Bool)
   deaf-silence x st (Write old ∷ es) c d f = λ o. (tt, deaf-silence x st es (after c (Write old)) d f)
   deaf-silence x st (Read s ∷ es) c d f = λ o. (tt, either-read (readOf s) c es (deaf-silence x st es c d f))
 
-  deaf-ends : (c : Controller) (es : List Call) → among (c .session .state) ≡ true → SaysOnly these (c .settings) (c .session .station) es
+  deaf-ends : (c : Controller) (es : List Call) → among (c .session .state) ≡ true
+      → SaysOnly these (c .settings) (c .session .station) es
       → longest ≤ ticksIn es → endsWithin c es ≡ true
   deaf-ends c es h f n =
       within-801 c es (deaf-silence (c .settings) (c .session .station) es c (record { settings = refl; station = λ o. refl; state = h }) f) n
@@ -266,7 +271,8 @@ deaf-error (Ccs b) h = absurd (false≢true h)
 deaf-error (Cst b) h = absurd (false≢true h)
 deaf-error Cem h = absurd (false≢true h)
 
-deaf-to-handshake : (st : State) (m : ChargeMessage) → fromCharging st ≡ true → isHandshake m ≡ true → feeds st m ≡ false
+deaf-to-handshake : (st : State) (m : ChargeMessage) → fromCharging st ≡ true → isHandshake m ≡ true
+    → feeds st m ≡ false
 unfolding fromCharging feeds
 deaf-to-handshake Idle m h e = refl
 deaf-to-handshake Offered m h e = absurd (false≢true h)

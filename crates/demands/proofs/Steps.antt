@@ -41,7 +41,8 @@ abbrev pub codeAnswer : Answer → Answer
 codeAnswer a = record { number = a .number; controller = codeOf (a .controller) }
 
 -- what asks of a state nothing but its kind, or of a phase nothing but what is no count, is told alike of its fold
-pub kind-folds : {A : Type 0} (f : State → A) → ((p : Phase) → f (Charging (foldPhase p)) ≡ f (Charging p)) → (st : State) → f (foldState st) ≡ f st
+pub kind-folds : {A : Type 0} (f : State → A) → ((p : Phase) → f (Charging (foldPhase p)) ≡ f (Charging p))
+    → (st : State) → f (foldState st) ≡ f st
 unfolding foldState
 kind-folds f h Idle = refl
 kind-folds f h Offered = refl
@@ -74,7 +75,8 @@ module _ (x : Settings) (source : ℕ) (t : Session) where
       either false = refl
 
 -- a received frame, by the cases of the view: the same number, and the code's next controller stands for the paper's
-by-case : (c : Controller) (id : ℕ) (s : List ℕ) → View (c .settings .own) id s → codeAnswer (frameTo c id s) ≡ frameTo (codeOf c) id s
+by-case : (c : Controller) (id : ℕ) (s : List ℕ) → View (c .settings .own) id s
+    → codeAnswer (frameTo c id s) ≡ frameTo (codeOf c) id s
 unfolding codeOf sessionMoved queriesMoved
 by-case c id s (Refused n h each) = rw (each c refl, each (codeOf c) refl)
 by-case c id s (Asks q h each) = rw (each c refl, each (codeOf c) refl)

@@ -31,14 +31,16 @@ abbrev pub codeStep : Step → Step
 codeStep x = record { before = codeBox (x .before); call = x .call; seen = x .seen; after = codeBox (x .after) }
 
 -- one call
-pub then-code : (b : Box) (m : CallMade) → KeepsPromise (codeBox b) m → boxThen (codeBox b) m ≡ codeBox (boxAfter paperNext b (callIn m))
+pub then-code : (b : Box) (m : CallMade) → KeepsPromise (codeBox b) m
+    → boxThen (codeBox b) m ≡ codeBox (boxAfter paperNext b (callIn m))
 then-code b m h = sym (one-box (codeBox b) m h) ∙ sym (after-in-step b (callIn m))
 
 pub in-hand-seen : (b : Box) (m : CallMade) → KeepsPromise (codeBox b) m → inHand m ≡ seenOf paperNext b (callIn m)
 in-hand-seen b m h = sym (one-seen (codeBox b) m h) ∙ sym (seen-in-step b (callIn m))
 
 -- any list of them, from every box
-pub steps-made : (b : Box) (ms : List CallMade) → AllKeepPromises (codeBox b) ms → stepsMade (codeBox b) ms ≡ map codeStep (stepsOf b (callsIn ms))
+pub steps-made : (b : Box) (ms : List CallMade) → AllKeepPromises (codeBox b) ms
+    → stepsMade (codeBox b) ms ≡ map codeStep (stepsOf b (callsIn ms))
 unfolding AllKeepPromises callsIn stepsMade stepsOf
 steps-made b [] h = refl
 steps-made b (m ∷ ms) h =
@@ -59,7 +61,8 @@ pub record Behind (ms : List CallMade) (c : Controller) : Type 0 where
   pub run : boxAt paperNext NoController (callsIn ms) ≡ Using paper
   pub code : codeOf paper ≡ c
 
-behind-box : (ms : List CallMade) (c : Controller) (b : Box) → boxAt paperNext NoController (callsIn ms) ≡ b → codeBox b ≡ Using c → Behind ms c
+behind-box : (ms : List CallMade) (c : Controller) (b : Box) → boxAt paperNext NoController (callsIn ms) ≡ b
+    → codeBox b ≡ Using c → Behind ms c
 unfolding codeBox
 behind-box ms c NoController e h = absurd (none-in-use c h)
 behind-box ms c (Using p) e h = record { paper = p; run = e; code = using-same (codeOf p) c h }
@@ -74,7 +77,8 @@ pub its-own : (ms : List CallMade) (c : Controller) → AfterCalls ms c → code
 its-own ms c a = let b : Behind ms c = behind ms c a in ap codeOf (sym (b .code)) ∙ (code-again (b .paper) ∙ b .code)
 
 -- from the start
-pub steps-from-start : (ms : List CallMade) → AllKeepPromises NoController ms → stepsMade NoController ms ≡ map codeStep (stepsOf NoController (callsIn ms))
+pub steps-from-start : (ms : List CallMade) → AllKeepPromises NoController ms
+    → stepsMade NoController ms ≡ map codeStep (stepsOf NoController (callsIn ms))
 unfolding codeBox
 steps-from-start ms h = steps-made NoController ms h
 
@@ -108,7 +112,8 @@ last-use c [] = refl
 last-use c (m ∷ ms) = ap (λ (z : Box). boxLast z ms) (then-use c m) ∙ last-use (useThen c m) ms
 
 -- one call more from a controller in use: the code's controller for the machine's
-pub use-is : (c : Controller) → codeOf c ≡ c → (m : CallMade) → KeepsPromise (Using c) m → useThen c m ≡ codeOf (after c (callIn m))
+pub use-is : (c : Controller) → codeOf c ≡ c → (m : CallMade) → KeepsPromise (Using c) m
+    → useThen c m ≡ codeOf (after c (callIn m))
 unfolding codeBox
 use-is c e m h =
     using-same _ _
@@ -118,7 +123,8 @@ use-is c e m h =
     ∙ ap codeBox (after-is c (callIn m)))))
 
 -- the calls with one more are calls from the start again
-kept-more : (b : Box) (ms : List CallMade) (m : CallMade) → AllKeepPromises b ms → KeepsPromise (boxLast b ms) m → AllKeepPromises b (ms ++ (m ∷ []))
+kept-more : (b : Box) (ms : List CallMade) (m : CallMade) → AllKeepPromises b ms → KeepsPromise (boxLast b ms) m
+    → AllKeepPromises b (ms ++ (m ∷ []))
 unfolding AllKeepPromises boxLast
 kept-more b [] m h k = (k, tt)
 kept-more b (n ∷ ms) m h k = (h .0, kept-more (boxThen b n) ms m (h .1) k)
@@ -128,7 +134,8 @@ unfolding boxLast
 last-more b [] m = refl
 last-more b (n ∷ ms) m = last-more (boxThen b n) ms m
 
-pub one-call-more : (ms : List CallMade) (c : Controller) (m : CallMade) → AfterCalls ms c → KeepsPromise (Using c) m → AfterCalls (ms ++ (m ∷ [])) (useThen c m)
+pub one-call-more : (ms : List CallMade) (c : Controller) (m : CallMade) → AfterCalls ms c → KeepsPromise (Using c) m
+    → AfterCalls (ms ++ (m ∷ [])) (useThen c m)
 one-call-more ms c m a k =
     record {
       kept = kept-more NoController ms m (a .kept) (subst (λ (z : Box). KeepsPromise z m) (sym (a .inUse)) k);

@@ -80,7 +80,8 @@ module _ (x : Settings) (r : Readings) (c : Cells) where
   on-charging (Stopping k f) to h e = absurd (false≢true h)
   on-charging Error to h e = absurd (false≢true h)
 
-  leads-charging : (w : Why) (from to : State) → isCharging from ≡ true → LeadsTo x r c from w to → isCharging to ≡ not (leavesFor w)
+  leads-charging : (w : Why) (from to : State) → isCharging from ≡ true → LeadsTo x r c from w to
+      → isCharging to ≡ not (leavesFor w)
   unfolding LeadsTo leavesFor isCharging
   leads-charging GoesOn from to h e = on-charging from to h e
   leads-charging AtSilenceLimit from to h e = ap isCharging e
@@ -121,11 +122,13 @@ module _ (c : Controller) (r : Readings) (v : List ℕ) (t : List ℤ) (old : Li
       either true = idle-in (c .settings) r (cellsOf v t) (c .session) (c .session .state) h
       either false = refl
 
-  pub which-tick-ends-a-session : noSession c ≡ false → noSession (after c (Tick r v t old)) ≡ (accepts r v t old && endsFor why)
+  pub which-tick-ends-a-session : noSession c ≡ false
+      → noSession (after c (Tick r v t old)) ≡ (accepts r v t old && endsFor why)
   unfolding noSession
   which-tick-ends-a-session o = either (accepts r v t old) refl
     where
-      either : (b : Bool) → accepts r v t old ≡ b → isIdle (after c (Tick r v t old) .session .state) ≡ (b && endsFor why)
+      either : (b : Bool) → accepts r v t old ≡ b
+          → isIdle (after c (Tick r v t old) .session .state) ≡ (b && endsFor why)
       either true h = leads-idle (c .settings) r (cellsOf v t) why (c .session .state) _ o (what-a-tick-does h)
       either false h = ap (λ (z : Controller). isIdle (z .session .state)) (what-a-refused-tick-does h) ∙ o
 
@@ -133,6 +136,7 @@ module _ (c : Controller) (r : Readings) (v : List ℕ) (t : List ℤ) (old : Li
       → isCharging (after c (Tick r v t old) .session .state) ≡ not (accepts r v t old && leavesFor why)
   which-tick-ends-a-charge o = either (accepts r v t old) refl
     where
-      either : (b : Bool) → accepts r v t old ≡ b → isCharging (after c (Tick r v t old) .session .state) ≡ not (b && leavesFor why)
+      either : (b : Bool) → accepts r v t old ≡ b
+          → isCharging (after c (Tick r v t old) .session .state) ≡ not (b && leavesFor why)
       either true h = leads-charging (c .settings) r (cellsOf v t) why (c .session .state) _ o (what-a-tick-does h)
       either false h = ap (λ (z : Controller). isCharging (z .session .state)) (what-a-refused-tick-does h) ∙ o

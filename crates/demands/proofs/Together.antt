@@ -20,7 +20,8 @@ at-once c [] h = h
 at-once c (e ∷ es) h = rw h
 
 -- a list that begins with one
-not-yet : (c : Controller) (e : Call) (es : List Call) → noSession c ≡ false → endsWithin c (e ∷ es) ≡ endsWithin (after c e) es
+not-yet : (c : Controller) (e : Call) (es : List Call) → noSession c ≡ false
+    → endsWithin c (e ∷ es) ≡ endsWithin (after c e) es
 unfolding endsWithin
 not-yet c e es h = rw h
 
@@ -34,23 +35,27 @@ over-together c d es fs a h =
     let k : endsWithin d fs ≡ true = at-once d fs (sym (same-noSession c d a) ∙ h) in
     record { ends = at-once c es h ∙ sym k; until = λ f. absurd (false≢true (sym f ∙ at-once c es h)) }
 
-step-left : (c d : Controller) (e : Call) (es fs : List Call) → noSession c ≡ false → Together (after c e) d es fs → Together c d (e ∷ es) fs
+step-left : (c d : Controller) (e : Call) (es fs : List Call) → noSession c ≡ false → Together (after c e) d es fs
+    → Together c d (e ∷ es) fs
 unfolding afterAll
 step-left c d e es fs o t =
     record { ends = not-yet c e es o ∙ t .ends; until = λ f. t .until (sym (not-yet c e es o) ∙ f) }
 
-step-right : (c d : Controller) (e : Call) (es fs : List Call) → noSession d ≡ false → Together c (after d e) es fs → Together c d es (e ∷ fs)
+step-right : (c d : Controller) (e : Call) (es fs : List Call) → noSession d ≡ false → Together c (after d e) es fs
+    → Together c d es (e ∷ fs)
 unfolding afterAll
 step-right c d e es fs o t = record { ends = t .ends ∙ sym (not-yet d e fs o); until = t .until }
 
 abbrev Alone : ℕ → List Call → Type 0
 Alone st es = (c d : Controller) → Alike c d → c .session .station ≡ st → noSession c ≡ false → Together c d es (reaching st es)
 
-both : (c d : Controller) (es fs : List Call) → Alike c d → (noSession c ≡ false → Together c d es fs) → (b : Bool) → noSession c ≡ b → Together c d es fs
+both : (c d : Controller) (es fs : List Call) → Alike c d → (noSession c ≡ false → Together c d es fs) → (b : Bool)
+    → noSession c ≡ b → Together c d es fs
 both c d es fs a h true e = over-together c d es fs a e
 both c d es fs a h false e = h e
 
-one-more : (st : ℕ) (e : Call) (es : List Call) → Alone st es → (c d : Controller) → Alike c d → c .session .station ≡ st → noSession c ≡ false
+one-more : (st : ℕ) (e : Call) (es : List Call) → Alone st es → (c d : Controller) → Alike c d
+    → c .session .station ≡ st → noSession c ≡ false
     → (t : Bool) → reaches st e ≡ t → Together c d (e ∷ es) (cond t (e ∷ reaching st es) (reaching st es))
 one-more st e es ih c d a k o true h =
     step-left c d e es (e ∷ reaching st es) o
@@ -68,7 +73,8 @@ alone st [] c d a k o = record { ends = same-noSession c d a; until = λ f. a .s
 alone st (e ∷ es) c d a k o = one-more st e es (alone st es) c d a k o (reaches st e) refl
 
 -- over a list in which the session stays open, what cannot reach it may be left out
-pub left-out : (c : Controller) (st : ℕ) (es : List Call) → c .session .station ≡ st → noSession c ≡ false → endsWithin c (reaching st es) ≡ false
+pub left-out : (c : Controller) (st : ℕ) (es : List Call) → c .session .station ≡ st → noSession c ≡ false
+    → endsWithin c (reaching st es) ≡ false
     → afterAll c es .session ≡ afterAll c (reaching st es) .session
 left-out c st es k o f =
     let t : Together c c es (reaching st es) = alone st es c c (record { settings = refl; session = refl }) k o in t .until (t .ends ∙ f)
@@ -94,5 +100,6 @@ module _ (c d : Controller) (ks ls : List Call) (o : noSession c ≡ false) (a :
       left .until f ∙ (ap (λ (z : List Call). afterAll c z .session) same ∙ sym (right .until (sym ends-together ∙ f)))
 
 -- what cannot reach the session never ends it
-pub unreached-never-ends : (c : Controller) (e : Call) → noSession c ≡ false → reaches (c .session .station) e ≡ false → noSession (after c e) ≡ false
+pub unreached-never-ends : (c : Controller) (e : Call) → noSession c ≡ false → reaches (c .session .station) e ≡ false
+    → noSession (after c e) ≡ false
 unreached-never-ends c e o h = same-noSession (after c e) c (unreached c e o h) ∙ o

@@ -62,7 +62,8 @@ if-map : (b : Bool) (m : Moment) → cond b (foldMoment m ∷ []) [] ≡ map fol
 if-map true m = refl
 if-map false m = refl
 
-moment-folds : (st : ℕ) (k : Call) (seen : Seen) (s : Session) → momentOf st k seen (folds s) ≡ map foldMoment (momentOf st k seen s)
+moment-folds : (st : ℕ) (k : Call) (seen : Seen) (s : Session)
+    → momentOf st k seen (folds s) ≡ map foldMoment (momentOf st k seen s)
 unfolding momentOf foldMoment
 moment-folds st (Receive id l) seen s = if-map (fromStation st id) (AfterFrame (numberSeen seen) s)
 moment-folds st (Tick r v t old) seen s = refl
@@ -166,7 +167,8 @@ one-or-none : (b : Bool) (m : Moment) → length (cond b (m ∷ []) []) ≡ cond
 one-or-none true m = refl
 one-or-none false m = refl
 
-heard-moments : (st : ℕ) (k : Call) (seen : Seen) (s : Session) → length (momentOf st k seen s) ≡ cond (reaches st k) 1 0
+heard-moments : (st : ℕ) (k : Call) (seen : Seen) (s : Session)
+    → length (momentOf st k seen s) ≡ cond (reaches st k) 1 0
 unfolding momentOf reaches
 heard-moments st (Receive id l) seen s = one-or-none (fromStation st id) (AfterFrame (numberSeen seen) s)
 heard-moments st (Tick r v t old) seen s = refl
@@ -190,12 +192,14 @@ place-told st (x ∷ xs) =
     either false true = refl
     either false false = refl
 
-pub ends-told : (ks : List Call) (c : Controller) → noSession c ≡ false → endsIn (stepsOf (Using c) ks) ≡ endsWithin c ks
+pub ends-told : (ks : List Call) (c : Controller) → noSession c ≡ false
+    → endsIn (stepsOf (Using c) ks) ≡ endsWithin c ks
 unfolding endsIn stepsOf endsWithin
 ends-told [] c o = sym o
 ends-told (k ∷ ks) c o = rw (over-then c k, after-is c k, o) (either (noSession (after c k)) refl (ends-told ks (after c k)))
   where
-    either : (t : Bool) → noSession (after c k) ≡ t → (noSession (after c k) ≡ false → endsIn (stepsOf (Using (after c k)) ks) ≡ endsWithin (after c k) ks)
+    either : (t : Bool) → noSession (after c k) ≡ t
+        → (noSession (after c k) ≡ false → endsIn (stepsOf (Using (after c k)) ks) ≡ endsWithin (after c k) ks)
         → (t || endsIn (stepsOf (Using (after c k)) ks)) ≡ endsWithin (after c k) ks
     either true h f = sym (at-once (after c k) ks h)
     either false h f = f h
@@ -254,13 +258,16 @@ module _ (ps : List CallMade) (c : Controller) (a : AfterCalls ps c) where
         ∙ (ends-together c c (map emptied (callsIn ms)) (map emptied (callsIn ns)) o (record { settings = refl; session = refl }) (heard-alike h)
         ∙ ends-emptied (callsIn ns) c)
 
-    pub undisturbed-life : noSession c ≡ false → SameHeard → lifeIn st (stepsMade (Using c) ms) ≡ lifeIn st (stepsMade (Using c) ns)
+    pub undisturbed-life : noSession c ≡ false → SameHeard
+        → lifeIn st (stepsMade (Using c) ms) ≡ lifeIn st (stepsMade (Using c) ns)
     undisturbed-life o h = life-made o ms hm ∙ (ap (map foldMoment) (life-alike o h) ∙ sym (life-made o ns hn))
 
-    pub undisturbed-end : noSession c ≡ false → SameHeard → placeOfEnd st (stepsMade (Using c) ms) ≡ placeOfEnd st (stepsMade (Using c) ns)
+    pub undisturbed-end : noSession c ≡ false → SameHeard
+        → placeOfEnd st (stepsMade (Using c) ms) ≡ placeOfEnd st (stepsMade (Using c) ns)
     undisturbed-end o h = place-made o ms hm ∙ (rw (ends-alike o h, life-alike o h) refl ∙ sym (place-made o ns hn))
 
-    outputs-made : (ls : List CallMade) → AllKeepPromises (Using c) ls → outputsIn (stepsMade (Using c) ls) ≡ outputs c (callsIn ls)
+    outputs-made : (ls : List CallMade) → AllKeepPromises (Using c) ls
+        → outputsIn (stepsMade (Using c) ls) ≡ outputs c (callsIn ls)
     outputs-made ls k =
         ap outputsIn (steps-from-use c (its-own ps c a) ls k)
         ∙ (outputs-fold (stepsOf (Using c) (callsIn ls)) ∙ outputs-told (callsIn ls) c (use-bytes ps c a))

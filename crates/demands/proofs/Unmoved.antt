@@ -24,7 +24,8 @@ use Rattle.demands.proofs.View.{View, Refused, Asks, Charges, view}
 use Rattle.demands.proofs.Comes.{Comes, Left, Took, came}
 
 -- ---- a charge message leaves all but the session: it is refused, or the session takes it
-charge-leaves : (c : Controller) (id : ℕ) (l : List ℕ) (a : Answer) → Comes c id l a → isCharge id ≡ true → Beside (a .controller) c
+charge-leaves : (c : Controller) (id : ℕ) (l : List ℕ) (a : Answer) → Comes c id l a → isCharge id ≡ true
+    → Beside (a .controller) c
 unfolding sessionMoved
 charge-leaves c id l a (Left u e n) h = rw (n h .answer)
 charge-leaves c id l a (Took m says may e) h = rw e
@@ -40,7 +41,8 @@ module _ (c d : Controller) (a : Beside c d) where
   same-own = sym (ap (λ (z : Controller). z .settings .own) a)
 
   -- by the cases of the view: refused, and a query; a charge message it is not
-  by-case : (id : ℕ) (l : List ℕ) → View (c .settings .own) id l → isCharge id ≡ false → BesideAfter (frameTo c id l) (frameTo d id l)
+  by-case : (id : ℕ) (l : List ℕ) → View (c .settings .own) id l → isCharge id ≡ false
+      → BesideAfter (frameTo c id l) (frameTo d id l)
   unfolding queriesMoved
   by-case id l (Refused n h each) f = rw (each c refl, each d same-own) (record { beside = a; number = refl })
   by-case id l (Asks q h each) f =

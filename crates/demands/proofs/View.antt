@@ -102,7 +102,8 @@ module _ (own id : ℕ) (s : List ℕ) where
     -- 3 to 8: a charge message is never refused by 0
     Refused : (n : ℕ) → (isCharge id ≡ true → n ≡ 0 → ⊥) → Each (refused n) → View
     -- a query, answered by the waiting queries: 12, 13 or 0
-    Asks : (q : Query) → isQuery id ≡ true → Each (λ c. queriesMoved c (queuedOf (c .queries) (partsOf id .source) (kindOf q))) → View
+    Asks : (q : Query) → isQuery id ≡ true
+        → Each (λ c. queriesMoved c (queuedOf (c .queries) (partsOf id .source) (kindOf q))) → View
     -- a charge message, answered by settings and session: 9, 10, 11 or 0
     Charges : (k : Charge) → isCharge id ≡ true → messageIn own id s ≡ recognized.As (message.Charge k)
         → Each (λ c. sessionMoved c (chargeOn (c .settings) (partsOf id .source) k s (c .session))) → View

@@ -97,16 +97,19 @@ module _ (request : TenthAmps) (cycle : ℕ) where
   drive-then-rest n later h = drive-rests n 5999 later h (omega arith)
 
 -- a Rest that has had its 6000 ticks goes on as what comes after it would from its start
-same-rules : (p q : Phase) → ((full : Bool) → phaseAfter p full ≡ phaseAfter q full) → (ticks : List Bool) → asked p ticks ≡ asked q ticks
+same-rules : (p q : Phase) → ((full : Bool) → phaseAfter p full ≡ phaseAfter q full) → (ticks : List Bool)
+    → asked p ticks ≡ asked q ticks
 unfolding asked
 same-rules p q h [] = refl
 same-rules p q h (full ∷ ticks) = rw (h full)
 
-then-drive-200 : (full : Bool) → phaseAfter (Rest (tenths 400) 1 restLimit) full ≡ phaseAfter (Drive (tenths 200) 2 0) full
+then-drive-200 : (full : Bool)
+    → phaseAfter (Rest (tenths 400) 1 restLimit) full ≡ phaseAfter (Drive (tenths 200) 2 0) full
 unfolding phaseAfter afterRest
 then-drive-200 full = refl
 
-then-drive-100 : (full : Bool) → phaseAfter (Rest (tenths 200) 2 restLimit) full ≡ phaseAfter (Drive (tenths 100) 3 0) full
+then-drive-100 : (full : Bool)
+    → phaseAfter (Rest (tenths 200) 2 restLimit) full ≡ phaseAfter (Drive (tenths 100) 3 0) full
 unfolding phaseAfter afterRest
 then-drive-100 full = refl
 
@@ -139,14 +142,16 @@ asks-in-turn a b c h i j =
 
 -- ---- 255 cells end at PF 70 and A0
 module _ (own source group : ℕ) (v : List ℕ) (t : List ℤ) (h : own < 256) (i : source < 256) where
-  voltages-end : length v ≡ 255 → pastEnd v t (voltagesAt source group) ≡ false → atLast v t (voltagesAt source group) ≡ true
+  voltages-end : length v ≡ 255 → pastEnd v t (voltagesAt source group) ≡ false
+      → atLast v t (voltagesAt source group) ≡ true
       → partsOf (groupFrame own v t (voltagesAt source group) .id) .pf ≡ 0x70
   unfolding groupFrame
   voltages-end n p l =
       let e : 0x31 + group ≡ 0x70 = queries.voltages-end v t source group n p l in
       pf-sent (toTarget (0x31 + group) 7) source own (omega arith) (omega arith) i h ∙ e
 
-  temperatures-end : length t ≡ 255 → pastEnd v t (temperaturesAt source group) ≡ false → atLast v t (temperaturesAt source group) ≡ true
+  temperatures-end : length t ≡ 255 → pastEnd v t (temperaturesAt source group) ≡ false
+      → atLast v t (temperaturesAt source group) ≡ true
       → partsOf (groupFrame own v t (temperaturesAt source group) .id) .pf ≡ 0xa0
   unfolding groupFrame
   temperatures-end n p l =
