@@ -42,3 +42,4 @@ pub mod GoneOut
 pub mod RunsMade
 pub mod RequestsSent
 pub mod Statements
+pub mod Offers

@@ -23,3 +23,4 @@ pub mod Since
 pub mod Reach
 pub mod GoneOut
 pub mod Statements
+pub mod Offers
