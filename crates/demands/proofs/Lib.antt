@@ -43,3 +43,4 @@ pub mod RunsMade
 pub mod RequestsSent
 pub mod Statements
 pub mod Offers
+pub mod BeginsCharge

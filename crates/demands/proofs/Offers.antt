@@ -105,7 +105,8 @@ entersReady (Enter st) = isReady st
 entersReady (Keep st) = false
 entersReady End = false
 
-either-enters : {A : Type 0} (t : Bool) (o u : Outcome) → (entersReady o ≡ true → A) → (entersReady u ≡ true → A) → entersReady (cond t o u) ≡ true → A
+either-enters : {A : Type 0} (t : Bool) (o u : Outcome) → (entersReady o ≡ true → A) → (entersReady u ≡ true → A)
+    → entersReady (cond t o u) ≡ true → A
 either-enters true o u h k e = h e
 either-enters false o u h k e = k e
 
@@ -149,7 +150,12 @@ module _ (x : Settings) (n : ℕ) where
     other-held m f st o (ToReady g) e h = absurd (false≢true (sym f ∙ parameters-cmp m (ap entersReady (sym e))))
     other-held m f st o (ToReadyAgain {y} {z} {maximum} {k}) e h = absurd (false≢true (sym f ∙ ready-cmp y maximum m (ap entersReady (sym e))))
     other-held m f st o (ToCharging {y} {maximum} g) e h =
-        record { offer = h .offer; made = h .made; within = subst (λ (k : TenthAmps). requestOf (startPhase (x .limits .current) maximum) ≤ k .0) (h .most) (start-within (x .limits .current) maximum) }
+        record {
+          offer = h .offer;
+          made = h .made;
+          within = subst (λ (k : TenthAmps). requestOf (startPhase (x .limits .current) maximum) ≤ k .0) (h .most)
+              (start-within (x .limits .current) maximum);
+        }
     other-held m f st o (ToStopping g) e h = tt
     other-held m f st o MarksIt e h = tt
     other-held m f st o EndsIt e h = tt
@@ -161,7 +167,8 @@ module _ (x : Settings) (n : ℕ) where
     own-offer : (o : Offer) → OfOffer x (offers.Offered o) (acceptedOf x o) (stationMaximum o)
     own-offer o = record { offer = o; made = refl; answer = refl; most = refl }
 
-    enters-held : (o : Offer) (g : Bool) → Held x (lastAfter o (cond g (readyOf x o) OutOfStep)) (stateAfter Parameters (cond g (readyOf x o) OutOfStep))
+    enters-held : (o : Offer) (g : Bool)
+        → Held x (lastAfter o (cond g (readyOf x o) OutOfStep)) (stateAfter Parameters (cond g (readyOf x o) OutOfStep))
     unfolding Held stateAfter readyOf
     enters-held o true = own-offer o
     enters-held o false = tt
@@ -180,7 +187,8 @@ module _ (x : Settings) (n : ℕ) where
 
     -- any
     message-held : (m : ChargeMessage) (s : List ℕ) → contentOf (chargeOf m) s ≡ Allowed m → (st : State) → Held x l st
-        → Held x (cond (isCmp (chargeOf m) && eqb (outcomeNumber (outcomeOf x st n m)) 0) (offerOf (contentOf charge.Cmp s)) l) (stateAfter st (outcomeOf x st n m))
+        → Held x (cond (isCmp (chargeOf m) && eqb (outcomeNumber (outcomeOf x st n m)) 0) (offerOf (contentOf charge.Cmp s)) l)
+        (stateAfter st (outcomeOf x st n m))
     unfolding isCmp offerOf offerIn
     message-held Cim s e st h = other-held Cim refl st _ (outcome-leads x n st Cim) refl h
     message-held (Cvm b) s e st h = other-held (Cvm b) refl st _ (outcome-leads x n st (Cvm b)) refl h
@@ -218,7 +226,8 @@ module _ (x : Settings) (r : Readings) (c : Cells) where
       rw e (turn-asks x r c (s .count) (s .silence) (s .state))
 
   module _ (l : LastOffer) where
-    charges-held : (p : Phase) (q : PhaseAfter) (to : State) → ChargesAs x r c q to → requestIn to ≤ requestOf p → Held x l (Charging p) → Held x l to
+    charges-held : (p : Phase) (q : PhaseAfter) (to : State) → ChargesAs x r c q to → requestIn to ≤ requestOf p
+        → Held x l (Charging p) → Held x l to
     unfolding ChargesAs Held requestIn
     charges-held p (phase.On k) to e a h =
         subst (Held x l) (sym e)
@@ -276,7 +285,12 @@ module _ (l : LastOffer) where
   frame-held c id s a (Left u e f) h =
       rw (u, e, left-untaken (recognizedOf (partsOf id .pf)) (a .number) (λ i. f i .number)) h
   frame-held c id s a (Took m says may e) h =
-      rw (e, pf-is (c .settings .own) id s (message.Charge (chargeOf m)) (says .checks), state-is (partsOf id .source) (c .session) (outcomeOf (c .settings) (c .session .state) (c .session .count) m))
+      let o = outcomeOf (c .settings) (c .session .state) (c .session .count) m in
+      rw (
+        e,
+        pf-is (c .settings .own) id s (message.Charge (chargeOf m)) (says .checks),
+        state-is (partsOf id .source) (c .session) o,
+      )
       (message-held (c .settings) (c .session .count) l m s (says .content) (c .session .state) h)
 
   abbrev stepAt : Box → Call → Step
@@ -287,7 +301,8 @@ module _ (l : LastOffer) where
   read-held (read.Read x) b h = tt
   read-held (read.Refused n) b h = h
 
-  taken-tick : (c : Controller) (r : Readings) (v : List ℕ) (t : List ℤ) (took : Bool) → HeldIn l (Using c) → HeldIn l (Using (cond took (paperNext c r v t) c))
+  taken-tick : (c : Controller) (r : Readings) (v : List ℕ) (t : List ℤ) (took : Bool) → HeldIn l (Using c)
+      → HeldIn l (Using (cond took (paperNext c r v t) c))
   unfolding HeldIn paperNext
   taken-tick c r v t true h = tick-held (c .settings) r (cellsOf v t) l (c .session) h
   taken-tick c r v t false h = h

@@ -1,5 +1,5 @@
 -- The last CMP taken (01, "Session by message", Ready: "each CMP, the entering one too, sets yes or no"; "Slips to shut
--- out": "keeping an old 'yes' after a new CMP"). Which offer it made is read off the calls of a run: the PF and the data
+-- out": "keeping an old yes after a new CMP"). Which offer it made is read off the calls of a run: the PF and the data
 -- of the frames received, and the numbers answered. No controller is looked at. For `what-begins-a-charge`,
 -- `the-last-cmp-counts`, `not-above-the-station` and `no-request-above-the-station`.
 use Prim.Native.Nat.{ℕ, _+_, _≤_}
