@@ -44,3 +44,4 @@ pub mod RequestsSent
 pub mod Statements
 pub mod Offers
 pub mod BeginsCharge
+pub mod Closing

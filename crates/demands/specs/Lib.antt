@@ -24,3 +24,4 @@ pub mod Reach
 pub mod GoneOut
 pub mod Statements
 pub mod Offers
+pub mod Closing
