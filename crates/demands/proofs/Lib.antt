@@ -45,3 +45,4 @@ pub mod Statements
 pub mod Offers
 pub mod BeginsCharge
 pub mod Closing
+pub mod EcrSent

@@ -199,7 +199,7 @@ module _ (x : Settings) (n : ℕ) where
     message-held Cem s e st h = other-held Cem refl st _ (outcome-leads x n st Cem) refl h
 
 -- ---- a tick asks no more than was asked
-older-asks : (p : Phase) → requestOf (older p) ≡ requestOf p
+pub older-asks : (p : Phase) → requestOf (older p) ≡ requestOf p
 unfolding older requestOf
 older-asks (Drive request cycle time) = refl
 older-asks (Rest request cycle time) = refl
@@ -257,7 +257,7 @@ module _ (x : Settings) (r : Readings) (c : Cells) where
     leads-held CellFull from to e a h = subst (Held x l) (sym e) tt
     leads-held AtClosingLimit from to e a h = subst (Held x l) (sym e) tt
 
-    tick-held : (s : Session) → Held x l (s .state) → Held x l (literalTick x r c s .state)
+    pub tick-held : (s : Session) → Held x l (s .state) → Held x l (literalTick x r c s .state)
     tick-held s h = leads-held (whyOf x r c s) (s .state) (literalTick x r c s .state) (tick-why x r c s) (tick-asks s) h
 
 -- ---- any call

@@ -92,6 +92,17 @@ pub record WithinOffer (last : LastOffer) (current : ℕ) : Type 0 where
   pub made : last ≡ Offered offer
   pub within : current ≤ stationMaximum offer .0
 
+-- the same as sent: the current that an ECR asks, which is 4000 minus the word, is not above that maximum
+pub record AsksWithinOffer (last : LastOffer) (f : Frame) : Type 0 where
+  pub offer : Offer
+  pub made : last ≡ Offered offer
+  pub current : 4000 ≤ currentWord f + stationMaximum offer .0
+
+-- and so of each ECR among the frames
+unfoldable pub AllAskWithinOffer : LastOffer → List Frame → Type 0
+AllAskWithinOffer last [] = Unit {0}
+AllAskWithinOffer last (f ∷ fs) = (isEcr f ≡ true → AsksWithinOffer last f) × AllAskWithinOffer last fs
+
 -- ---- what begins a charge: a CRM AA of the session's station, in Ready, an ERM AA of ours having gone out since the
 -- last CMP taken; that CMP's offer is answered yes; and the charge begins with the smaller of the maximum current and
 -- the maximum that it offers
@@ -129,3 +140,10 @@ abbrev pub NotAboveTheStation : Type 0
 NotAboveTheStation =
     (ms : List CallMade) (c : Controller) → AfterCalls ms c → isCharging (c .session .state) ≡ true
     → WithinOffer (lastTaken ms) (requestIn (c .session .state))
+
+-- and as sent: nor does any ECR in the buffer of the next tick ask more, told by its bytes
+abbrev pub NoRequestAboveTheStation : Type 0
+NoRequestAboveTheStation =
+    (ms : List CallMade) (c : Controller) (r : Readings) (v : List ℕ) (t : List ℤ) (old new : List ℕ) (k : Ticked)
+    → AfterCalls ms c → NextCall c (DidTick r v t old new k)
+    → AllAskWithinOffer (lastTaken ms) (framesWritten (k .bytes) new)
