@@ -25,17 +25,14 @@ use Rattle.session_states.specs.States.{isIdle, isReady, isCharging}
 use Rattle.session_by_message.specs.declared.Outcome.{Outcome}
 use Rattle.session_by_message.specs.declared.Outcome.the-variants.{OutOfStep, Heard, Enter}
 use Rattle.session_by_message.specs.Message.{goneOut, outcomeNumber, outcomeOf, inReady, readyOf, crmInReady}
-use Rattle.session_by_message.specs.Offer.{stationMaximum}
 use Rattle.session.specs.declared.Session.{Session}
-use Rattle.session.specs.Message.{sessionAfter, appliedOf, messageOf}
+use Rattle.session.specs.Message.{appliedOf, messageOf}
 use Rattle.session_paper_counts.specs.Folds.{foldPhase, foldState, folds}
 use Rattle.controller.specs.declared.Controller.{Controller}
 use Rattle.controller.specs.declared.Answer.{Answer}
-use Rattle.controller.specs.declared.Start.{Start}
-use Rattle.controller.specs.declared.Ticked.{Ticked}
 use Rattle.controller.specs.Start.{freshOf}
-use Rattle.controller.specs.Frame.{frameTo, sessionMoved}
-use Rattle.demands.specs.Machine.{Call, Read, Receive, Tick, Write, NoController}
+use Rattle.controller.specs.Frame.{sessionMoved}
+use Rattle.demands.specs.Machine.{Read, Receive, Tick, NoController}
 use Rattle.demands.specs.InStep.{codeOf}
 use Rattle.demands.specs.Calls.{CallMade, DidRead, DidReceive, DidTick, DidWrite, callIn, KeepsPromise, callsIn}
 use Rattle.demands.specs.Steps.{Step, stepsOf}

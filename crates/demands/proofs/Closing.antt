@@ -3,9 +3,9 @@
 use Prim.Native.Nat.{ℕ, _+_, _-_, _≤_}
 use native.Mathlib.Omega.{arith}
 use mathlib.Core.Path.{_≡_, refl, sym, ap, subst, _∙_}
-use mathlib.Core.Bool.{Bool, true, false, cond, _||_, false≢true}
+use mathlib.Core.Bool.{Bool, true, false, cond, false≢true}
 use mathlib.Core.List.{List, [], _∷_, _++_}
-use lib.Dec.{eqb, ltb, leb}
+use lib.Dec.{ltb, leb}
 use lib.IntN.{ℤ}
 use borrow.Author.Tests.{eq-eqb, leb-false}
 use Rattle.messages.specs.Identifier.{partsOf, identifierOf}
@@ -42,14 +42,13 @@ use Rattle.session_paper_counts.specs.Folds.{foldState, folds}
 use Rattle.session_paper_counts.specs.Literal.{grown, counted, literalIn, literalAdvance, literalTick}
 use Rattle.controller.specs.declared.Controller.{Controller}
 use Rattle.controller.specs.declared.Answer.{Answer}
-use Rattle.controller.specs.declared.Ticked.{Ticked}
 use Rattle.controller.specs.Start.{freshOf}
 use Rattle.controller.specs.Frame.{frameTo, sessionMoved}
 use Rattle.controller.specs.Tick.{chargeFrames}
 use Rattle.demands.specs.Machine.{Call, Read, Receive, Tick, Write, Box, Using, Seen, paperNext, seenOf, framesSeen}
 use Rattle.demands.specs.InStep.{codeOf, codeBox}
 use Rattle.demands.specs.Calls.{CallMade, DidTick, callIn, KeepsPromise, inHand, callsIn}
-use Rattle.demands.specs.Since.{AfterCalls, useThen}
+use Rattle.demands.specs.Since.{useThen}
 use Rattle.demands.specs.After.{accepts, readInto, after, noSession, endsWithin}
 use Rattle.demands.specs.Apart.{sentAt}
 use Rattle.demands.specs.Unmoved.{besideAt}

@@ -37,7 +37,7 @@ use Rattle.session.specs.Tick.{turnedBy, turnIn, sentOf}
 use Rattle.session_paper_counts.specs.Literal.{older, grown, literalIn, literalAdvance, literalTick}
 use Rattle.controller.specs.declared.Controller.{Controller}
 use Rattle.controller.specs.Tick.{tickFrames, chargeFrames, accepted}
-use Rattle.demands.specs.Machine.{Call, Tick, Box, Using, Seen, Gave, paperNext, seenOf, framesSeen}
+use Rattle.demands.specs.Machine.{Tick, Box, Using, Seen, Gave, paperNext, seenOf, framesSeen}
 use Rattle.demands.specs.InStep.{codeOf, codeBox}
 use Rattle.demands.specs.Calls.{CallMade, DidTick, callIn, KeepsPromise, inHand}
 use Rattle.demands.specs.FrameKinds.{pfIn, isChargeFrame, only}

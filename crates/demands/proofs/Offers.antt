@@ -1,7 +1,7 @@
 -- The last CMP taken, over any run of the paper's machine (specs/Offers.antt): after any calls from the start, in Ready
 -- yes or no and the station's maximum are those of its offer, and in Charging no more is asked than it offers. Assumes
 -- nothing.
-use Prim.Native.Nat.{ℕ, _+_, _≤_}
+use Prim.Native.Nat.{ℕ, _≤_}
 use native.Mathlib.Omega.{arith}
 use mathlib.Core.Path.{_≡_, refl, sym, ap, subst, _∙_}
 use mathlib.Core.Bool.{Bool, true, false, cond, _&&_, false≢true}
@@ -22,7 +22,7 @@ use Rattle.units.specs.Units.{lesserAmps}
 use Rattle.settings.specs.declared.Settings.{Settings}
 use Rattle.settings.specs.declared.SettingsRead.{SettingsRead}
 use Rattle.settings.specs.declared.SettingsRead.the-variants as read
-use Rattle.settings.specs.Read.{readOf, recordNumber}
+use Rattle.settings.specs.Read.{readOf}
 use Rattle.readings.specs.declared.Readings.{Readings}
 use Rattle.cells.specs.declared.Cells.{Cells}
 use Rattle.cells.specs.Summaries.{cellsOf}
@@ -44,18 +44,17 @@ use Rattle.session_by_message.specs.declared.Outcome.{Outcome}
 use Rattle.session_by_message.specs.declared.Outcome.the-variants.{Refuse, OutOfStep, Open, Heard, Enter, Keep, End}
 use Rattle.session_by_message.specs.Offer.{acceptedOf, stationMaximum}
 use Rattle.session_by_message.specs.Message.{goneOut, outcomeNumber, outcomeOf, inIdle, inOffered, inUnverified, inParameters, inReady, readyOf, crmInReady, inCharging, inStopping, inError}
-use Rattle.session_by_tick.specs.declared.Turn.{Turn}
 use Rattle.session_by_tick.specs.Turns.{cellFull, turnOf}
 use Rattle.session.specs.declared.Session.{Session}
-use Rattle.session.specs.Message.{sessionAfter, appliedOf, messageOf}
+use Rattle.session.specs.Message.{appliedOf, messageOf}
 use Rattle.session.specs.Tick.{turnedBy, turnIn}
 use Rattle.session_paper_counts.specs.Literal.{older, grown, counted, literalIn, literalAdvance, literalTick}
 use Rattle.controller.specs.declared.Controller.{Controller}
 use Rattle.controller.specs.declared.Answer.{Answer}
 use Rattle.controller.specs.Start.{freshOf, startWith, startOf}
 use Rattle.controller.specs.Frame.{frameTo, sessionMoved}
-use Rattle.controller.specs.Tick.{tickFrames, accepted}
-use Rattle.demands.specs.Machine.{Call, Read, Receive, Tick, Write, Box, NoController, Using, Seen, Gave, paperNext, started, boxAfter, seenOf, boxAt, numberSeen}
+use Rattle.controller.specs.Tick.{accepted}
+use Rattle.demands.specs.Machine.{Call, Read, Receive, Tick, Write, Box, NoController, Using, paperNext, started, boxAfter, seenOf, boxAt, numberSeen}
 use Rattle.demands.specs.After.{chargeIn, isCharge}
 use Rattle.demands.specs.Says.{chargeOf}
 use Rattle.demands.specs.Steps.{Step, stepsOf}
