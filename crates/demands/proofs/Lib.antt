@@ -44,3 +44,7 @@ pub mod GoneOut
 pub mod RunsMade
 pub mod RequestsSent
 pub mod Statements
+pub mod Offers
+pub mod BeginsCharge
+pub mod Closing
+pub mod EcrSent

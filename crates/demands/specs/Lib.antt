@@ -24,3 +24,5 @@ pub mod Since
 pub mod Reach
 pub mod GoneOut
 pub mod Statements
+pub mod Offers
+pub mod Closing
