@@ -1,8 +1,8 @@
 -- In every run each address is a byte: our own by the settings' range, the station's and a query's source as they are
 -- taken from an identifier. Assumes nothing.
-use Prim.Native.Nat.{ℕ, _%_, _<_}
+use Prim.Native.Nat.{ℕ, _<_}
 use native.Mathlib.Omega.{arith}
-use mathlib.Core.Path.{_≡_, refl, sym, ap, subst, _∙_}
+use mathlib.Core.Path.{_≡_, refl, sym, subst}
 use mathlib.Core.Bool.{Bool, true, false, cond, _&&_}
 use mathlib.Core.List.{List, [], _∷_, _++_}
 use borrow.Author.Tests.{leb-true}
@@ -20,7 +20,6 @@ use Rattle.settings.specs.declared.SettingsRead.the-variants as read
 use Rattle.settings.specs.Range.{lastAddress, within, inRange}
 use Rattle.settings.specs.Read.{readOf}
 use Rattle.settings.proofs.RoundTrip.{read-in-range}
-use Rattle.charge_messages.specs.declared.ChargeMessage.{ChargeMessage}
 use Rattle.session_states.specs.declared.states.State.{State}
 use Rattle.session_states.specs.declared.states.State.the-variants.{Idle, Offered, Unverified, Parameters, Ready, Charging, Stopping, Error}
 use Rattle.session_by_message.specs.declared.Outcome.{Outcome}
@@ -37,7 +36,7 @@ use Rattle.queries.specs.declared.Queries.{Queries}
 use Rattle.queries.specs.Waiting.{waiting, queriesOf}
 use Rattle.queries.specs.Asking.{askNumber, freshQuery, queuedOf}
 use Rattle.queries.specs.Answering.{pastEnd, atLast, nextGroup, waitingAfter}
-use Rattle.queries.proofs.Lists.{waiting-at-most, waiting-held, asked-waiting, askedList, later-at-most}
+use Rattle.queries.proofs.Lists.{waiting-at-most, waiting-held, asked-waiting, later-at-most}
 use Rattle.controller.specs.declared.Controller.{Controller}
 use Rattle.controller.specs.declared.Answer.{Answer}
 use Rattle.controller.specs.Start.{freshOf, startWith, startOf}

@@ -42,8 +42,8 @@ use Rattle.demands.specs.Says.{Says}
 use Rattle.demands.specs.Stops.{Why, GoesOn, AtSilenceLimit, NotWantedBefore, NotWantedCharging, CurrentAbove, PackFull, TimeUp, CellFull, AtClosingLimit, GoesOnAs, LeadsTo}
 use Rattle.demands.specs.GoneOut.{erm}
 use Rattle.demands.specs.Requests.{requestOf, requestIn}
-use Rattle.demands.specs.Statements.{NextCall, hasGone}
-use Rattle.demands.specs.Offers.{LastOffer, NoOffer, offerAfter, offerThrough, lastOffer, lastTaken, OfOffer, WithinOffer, BeginsCharge, WhatBeginsACharge, TheLastCmpCounts, NotAboveTheStation}
+use Rattle.demands.specs.Statements.{NextCall, hasGone, WhatBeginsACharge, TheLastCmpCounts, NotAboveTheStation}
+use Rattle.demands.specs.Offers.{LastOffer, NoOffer, offerAfter, offerThrough, lastOffer, lastTaken, OfOffer, WithinOffer, BeginsCharge}
 use Rattle.demands.proofs.Comes.{Comes, Left, Took, came, station-is}
 use Rattle.demands.proofs.Outcomes.{Leads, NotTaken, NotInStep, DoesNothing, OpensOne, ToUnverified, ToParameters, ToParametersLater, ToReady, ToReadyAgain, ToCharging, ToStopping, MarksIt, EndsIt, outcome-leads}
 use Rattle.demands.proofs.GoneOutMoves.{stateAfter, state-is}

@@ -54,7 +54,8 @@ use Rattle.demands.specs.Apart.{sentAt}
 use Rattle.demands.specs.Unmoved.{besideAt}
 use Rattle.demands.specs.GoneOut.{holds, isOurs}
 use Rattle.demands.specs.Silent.{isAcceptedTick, ticksIn}
-use Rattle.demands.specs.Closing.{isClosing, ClosingEnds, EstEachTick}
+use Rattle.demands.specs.Closing.{isClosing}
+use Rattle.demands.specs.Statements.{ClosingEnds, EstEachTick}
 use Rattle.demands.proofs.Tests.{or-left, or-right, same}
 use Rattle.demands.proofs.Comes.{Comes, Left, Took, came}
 use Rattle.demands.proofs.Steps.{kind-folds}

@@ -4,9 +4,9 @@
 use Prim.Native.Nat.{ℕ, _<_}
 use native.Mathlib.Omega.{arith}
 use mathlib.Core.Path.{_≡_, refl, sym, ap, subst, _∙_}
-use mathlib.Core.Bool.{Bool, true, false, not, cond, _&&_, false≢true}
+use mathlib.Core.Bool.{Bool, true, false, not, cond, _&&_}
 use mathlib.Core.List.{List, [], _∷_}
-use borrow.Author.Tests.{eqb-true, ne-eqb}
+use borrow.Author.Tests.{ne-eqb}
 use lib.Dec.{eqb, leb, ltb}
 use lib.IntN.{ℤ}
 use lib.ListN.{length}
@@ -39,7 +39,6 @@ use Rattle.session.specs.declared.Session.{Session}
 use Rattle.session.specs.Session.{withSilence}
 use Rattle.session.specs.Message.{sessionAfter, appliedOf, messageOf}
 use Rattle.queries.specs.declared.Kind.{Kind}
-use Rattle.queries.specs.declared.Queries.{Queries}
 use Rattle.queries.specs.Waiting.{waiting, mostWaiting}
 use Rattle.queries.specs.Asking.{someAsks, askNumber, queuedOf}
 use Rattle.controller.specs.declared.Controller.{Controller}
@@ -50,15 +49,14 @@ use Rattle.controller.specs.declared.Ticked.{Ticked}
 use Rattle.controller.specs.Start.{startNumber}
 use Rattle.controller.specs.Frame.{refused, mayCharge, kindOf, frameTo, sessionMoved, contentTaken, chargeTo, queriesMoved, queryTo, messageTo}
 use Rattle.controller.specs.Tick.{accepted, TickIs}
-use Rattle.refusals.specs.Frame.{notCan, flagsSet, notForUs, badSource, longEnough, messageIn}
-use Rattle.refusals.specs.Tick.{tickNumber}
+use Rattle.refusals.specs.Frame.{messageIn}
 use Rattle.session_states.specs.States.{isBeforeCharging}
 use Rattle.demands.specs.Says.{chargeOf}
-use Rattle.demands.specs.Machine.{Call, Read, Receive, Tick, Write, Box, NoController, Using, started, numberSeen}
+use Rattle.demands.specs.Machine.{Read, Receive, Box, NoController, Using, started, numberSeen}
 use Rattle.demands.specs.Calls.{CallMade, DidRead, DidReceive, DidTick, DidWrite, callIn, KeepsPromise, boxThen, inHand}
 use Rattle.demands.specs.Refusals.{isCimFrame, silenceAtZero, leftBy, boxLeftBy, lentBefore, lentAfter, bytesGiven, numberGiven, LeftAsItWas}
 use Rattle.demands.specs.SilentSlips.{isCim}
-use Rattle.controller.specs.With.{withSession, withQueries}
+use Rattle.controller.specs.With.{withSession}
 use Rattle.demands.proofs.Tests.{same}
 use Rattle.demands.proofs.View.{frame-view, refused-low, pf-is}
 use Rattle.demands.proofs.Comes.{content-is, ContentOf}

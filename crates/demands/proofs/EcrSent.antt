@@ -42,7 +42,8 @@ use Rattle.demands.specs.InStep.{codeOf, codeBox}
 use Rattle.demands.specs.Calls.{CallMade, DidTick, callIn, KeepsPromise, inHand}
 use Rattle.demands.specs.FrameKinds.{pfIn, isChargeFrame, only}
 use Rattle.demands.specs.Requests.{requestOf, isEcr}
-use Rattle.demands.specs.Offers.{LastOffer, lastTaken, WithinOffer, AsksWithinOffer, AllAskWithinOffer, NoRequestAboveTheStation}
+use Rattle.demands.specs.Offers.{LastOffer, lastTaken, WithinOffer, AsksWithinOffer, AllAskWithinOffer}
+use Rattle.demands.specs.Statements.{NoRequestAboveTheStation}
 use Rattle.demands.proofs.Sent.{Each, each-if, each-one, each-two, each-cons, each-none}
 use Rattle.demands.proofs.FrameKinds.{pf-sent, Bytes, charge-frames-told}
 use Rattle.demands.proofs.StepsMade.{in-hand-seen, its-own, use-bytes}

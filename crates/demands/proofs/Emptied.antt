@@ -1,7 +1,7 @@
 -- Of a lent buffer nothing but its length is read: calls that lend other contents lead to the same controllers, and the
 -- same is seen of the session and beside it. Assumes nothing.
 use Prim.Native.Nat.{ℕ}
-use mathlib.Core.Path.{_≡_, refl, ap, _∙_}
+use mathlib.Core.Path.{_≡_, refl}
 use mathlib.Core.Bool.{Bool, true, false, cond}
 use mathlib.Core.List.{List, [], _∷_, map}
 use lib.IntN.{ℤ}

@@ -2,20 +2,17 @@
 -- where every address is a byte (proofs/Addresses.antt: in every run it is). Assumes nothing.
 use Prim.Native.Nat.{ℕ, _+_, _*_, _/_, _%_, _<_, _≤_}
 use native.Mathlib.Omega.{arith}
-use mathlib.Core.Path.{_≡_, refl, sym, ap, subst, _∙_}
-use mathlib.Core.Bool.{Bool, true, false, cond, _&&_, _||_, false≢true}
+use mathlib.Core.Path.{_≡_, refl, ap, _∙_}
+use mathlib.Core.Bool.{Bool, true, false, cond, _&&_}
 use mathlib.Core.List.{List, [], _∷_, _++_, append-nil}
 use borrow.Author.Tests.{ne-eqb, le-leb, lt-ltb, leb-false}
 use lib.Dec.{eqb, leb, ltb}
 use lib.IntN.{ℤ}
-use lib.ListN.{length}
 use Rattle.messages.specs.declared.table.Row.{Row}
 use Rattle.messages.specs.Table.{pfOf, priorityOf, broadcastPs, PS, VOLTAGES}
 use Rattle.messages.specs.Identifier.{partsOf, numberOf, psPart, identifierOf}
 use Rattle.frames.specs.declared.Frame.{Frame}
-use Rattle.frames.specs.Frame.{frameOf}
 use Rattle.readings.specs.declared.Readings.{Readings}
-use Rattle.cells.specs.declared.Cells.{Cells}
 use Rattle.cells.specs.Summaries.{cellsOf}
 use Rattle.cells.specs.Tables.{tablesFit}
 use Rattle.cells.proofs.Bounds.{fit, Fit}
@@ -28,7 +25,7 @@ use Rattle.controller.specs.declared.Controller.{Controller}
 use Rattle.controller.specs.Tick.{tickFrames, chargeFrames, broadcastFrames, cellFrames}
 use Rattle.demands.specs.FrameKinds.{pfIn, chargeRows, someRow, isChargeFrame, isBroadcast, isCellFrame, only}
 use Rattle.demands.specs.Told.{isBeside}
-use Rattle.demands.proofs.Sent.{Each, each-map, each-if, each-one, each-none, Made, Make, Ten, Five, charge-made, broadcast-made, query-made}
+use Rattle.demands.proofs.Sent.{Each, each-map, each-one, each-none, Made, Make, Ten, Five, charge-made, broadcast-made, query-made}
 
 -- ---- the PF of an identifier that we send is the row's
 ps-byte : (b : Bool) (target ps : ℕ) → target < 256 → ps < 256 → cond b target ps < 256

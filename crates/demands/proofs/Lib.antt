@@ -43,8 +43,8 @@ pub mod GoneOutLaw
 pub mod GoneOut
 pub mod RunsMade
 pub mod RequestsSent
-pub mod Statements
 pub mod Offers
 pub mod BeginsCharge
 pub mod Closing
 pub mod EcrSent
+pub mod Statements

@@ -2,11 +2,10 @@
 -- whose test holds. It follows from the entry points' promises. Assumes nothing.
 use Prim.Native.Nat.{ℕ}
 use native.Mathlib.Omega.{arith}
-use mathlib.Core.Path.{_≡_, refl, sym, ap, subst, _∙_}
-use mathlib.Core.Bool.{Bool, true, false, not, cond, _&&_, _||_, false≢true}
-use mathlib.Core.List.{List, [], _∷_, _++_}
-use lib.Dec.{eqb, leb, ltb}
-use lib.IntN.{ℤ}
+use mathlib.Core.Path.{_≡_, refl, sym, ap, _∙_}
+use mathlib.Core.Bool.{Bool, true, false, not, cond, _&&_, _||_}
+use mathlib.Core.List.{List, [], _∷_}
+use lib.Dec.{eqb, ltb}
 use lib.ListN.{length}
 use Rattle.messages.specs.declared.received.Charge.{Charge}
 use Rattle.messages.specs.declared.received.Query.{Query}
@@ -17,16 +16,13 @@ use Rattle.messages.specs.declared.received.Recognized.the-variants as recogniz
 use Rattle.messages.specs.Identifier.{partsOf}
 use Rattle.messages.specs.Table.{pfOf}
 use Rattle.messages.specs.Received.{rowOf, leastLength, nine, firstWith, recognizedOf, someHas}
-use Rattle.settings.specs.declared.Settings.{Settings}
 use Rattle.settings.specs.Range.{inRange}
 use Rattle.settings.specs.Read.{layoutOf, settingsOf, recordNumber}
 use Rattle.settings.specs.Record.{recordOf}
 use Rattle.settings.specs.Write.{writeNumber, writtenOf}
 use Rattle.settings.specs.declared.Written.{Written}
-use Rattle.readings.specs.declared.Readings.{Readings}
 use Rattle.readings.specs.Readings.{readingsInRange}
 use Rattle.cells.specs.Tables.{tablesFit, cellsInRange}
-use Rattle.charge_messages.specs.declared.ChargeMessage.{ChargeMessage}
 use Rattle.charge_messages.specs.declared.Content.{Content}
 use Rattle.charge_messages.specs.declared.Content.the-variants as content
 use Rattle.charge_messages.specs.Content.{contentOf, allowedContent, refusalOf, contentNumber}
@@ -35,17 +31,16 @@ use Rattle.session_by_message.specs.declared.Outcome.{Outcome}
 use Rattle.session_by_message.specs.declared.Outcome.the-variants as outcome
 use Rattle.session_by_message.specs.Message.{outcomeNumber, outcomeOf}
 use Rattle.session.specs.Message.{appliedOf, messageOf}
-use Rattle.queries.specs.Waiting.{mostWaiting, waiting}
-use Rattle.queries.specs.Asking.{someAsks, askNumber, queuedOf}
+use Rattle.queries.specs.Asking.{askNumber, queuedOf}
 use Rattle.refusals.specs.Frame.{notCan, flagsSet, notForUs, badSource, longEnough, messageIn}
 use Rattle.refusals.specs.Tick.{tickRoom, tickNumber}
 use Rattle.controller.specs.declared.Controller.{Controller}
 use Rattle.controller.specs.declared.Answer.{Answer}
-use Rattle.controller.specs.Frame.{refused, mayCharge, kindOf, frameTo, sessionMoved, contentTaken, chargeTo, queriesMoved, queryTo, messageTo}
+use Rattle.controller.specs.Frame.{refused, mayCharge, frameTo, sessionMoved, contentTaken, chargeTo, queriesMoved, queryTo, messageTo}
 use Rattle.demands.specs.Machine.{Box, NoController, Using, numberSeen}
 use Rattle.demands.specs.Calls.{CallMade, DidRead, DidReceive, DidTick, DidWrite, callIn, KeepsPromise, inHand}
 use Rattle.demands.specs.Refusals.{numberGiven}
-use Rattle.demands.specs.Numbers.{Line, Given, firstGiven, isShort, notTaken, messageLines, frameLines, linesOf}
+use Rattle.demands.specs.Numbers.{firstGiven, isShort, notTaken, messageLines, frameLines, linesOf}
 use Rattle.demands.proofs.View.{frame-view}
 use Rattle.demands.proofs.Comes.{content-is, ContentOf}
 

@@ -1,28 +1,23 @@
 -- The statements of one call more: after any calls from the start, what the next call does (specs/Statements.antt).
 -- Each is its lemma of one call of any controller, carried over to the calls that were made. Assumes nothing.
-use Prim.Native.Nat.{ℕ, _+_, _≤_}
+use Prim.Native.Nat.{ℕ}
 use native.Mathlib.Omega.{arith}
 use mathlib.Core.Logic.{_⊎_}
 use mathlib.Core.Path.{_≡_, refl, sym, ap, subst, _∙_}
-use mathlib.Core.Bool.{Bool, true, false, not, cond, _&&_, _||_, false≢true}
+use mathlib.Core.Bool.{Bool, true, false, not, _&&_, _||_, false≢true}
 use mathlib.Core.List.{List, [], _∷_, map}
 use borrow.Author.Tests.{eq-eqb}
-use lib.Dec.{eqb, ltb}
+use lib.Dec.{ltb}
 use lib.IntN.{ℤ}
 use lib.ListN.{length}
 use Rattle.frames.specs.declared.Frame.{Frame}
 use Rattle.readings.specs.declared.Readings.{Readings}
-use Rattle.cells.specs.declared.Cells.{Cells}
-use Rattle.cells.specs.Summaries.{cellsOf}
-use Rattle.settings.specs.declared.Settings.{Settings}
 use Rattle.charge_messages.specs.declared.ChargeMessage.{ChargeMessage}
 use Rattle.charge_messages.specs.declared.ChargeMessage.the-variants.{Cvm, Cmp, Crm}
 use Rattle.refusals.specs.Tick.{tickNumber}
-use Rattle.session_states.specs.declared.phases.Phase.{Phase}
 use Rattle.session_states.specs.declared.states.State.{State}
 use Rattle.session_states.specs.declared.states.State.the-variants.{Idle, Offered, Unverified, Parameters, Ready, Charging, Stopping, Error}
 use Rattle.session_states.specs.States.{isIdle, isCharging, isStopping, isOffered, isParameters, isReady}
-use Rattle.session.specs.declared.Session.{Session}
 use Rattle.session_states.specs.Limits.{closingLimit, firstEcp}
 use Rattle.session_paper_counts.specs.Folds.{foldState, foldCount, folds}
 use Rattle.session_paper_counts.proofs.Fold.{fold-ltb}
@@ -32,17 +27,17 @@ use Rattle.controller.specs.declared.Ticked.{Ticked}
 use Rattle.session.specs.Message.{appliedOf, messageOf}
 use Rattle.controller.specs.Frame.{frameTo, sessionMoved}
 use Rattle.controller.specs.Tick.{accepted, tickFrames}
-use Rattle.demands.specs.Machine.{Call, Receive, Tick, Box, NoController, Using, paperNext, boxAt, numberSeen, framesSeen}
+use Rattle.demands.specs.Machine.{Box, NoController, Using, numberSeen, framesSeen}
 use Rattle.demands.specs.InStep.{codeOf, codeBox}
-use Rattle.demands.specs.Calls.{CallMade, DidRead, DidReceive, DidTick, DidWrite, callIn, KeepsPromise, boxThen, inHand, callsIn}
-use Rattle.demands.specs.Steps.{Step, stepsOf, stepsMade}
+use Rattle.demands.specs.Calls.{CallMade, DidReceive, DidTick, callIn, KeepsPromise, boxThen, inHand, callsIn}
+use Rattle.demands.specs.Steps.{Step, stepsOf}
 use Rattle.demands.specs.Since.{AfterCalls, useThen}
 use Rattle.demands.specs.Refusals.{leftBy, boxLeftBy, lentBefore, lentAfter}
 use Rattle.demands.specs.Says.{Says}
 use Rattle.demands.specs.After.{accepts, after, noSession}
-use Rattle.demands.specs.Apart.{reaches, Alike}
+use Rattle.demands.specs.Apart.{Alike}
 use Rattle.demands.specs.Over.{Opens, Ignored}
-use Rattle.demands.specs.GoneOut.{Watch, isHere, holds, sends, isOneOf, takes, goesOn, goneAfter, gone, isReadyYes, eim, ecp, erm, est}
+use Rattle.demands.specs.GoneOut.{Watch, isHere, sends, takes, goesOn, goneAfter, gone, isReadyYes, eim, ecp, erm, est}
 use Rattle.demands.specs.Statements.{NextCall, hasGone, WhatEndsASession, EachEndsASession, EstGone, EarlyAcknowledgement, WhatEndsACharge, EachEndsACharge, WhatARefusedTickDoes, WhatATickDoesInIdle, Over, EachOpens, ReplayedAcknowledgement, CvmTaken, CmpTaken, CrmTaken, Unreached, EimGone, EcpGone, ErmGone, WhatAMessageDoes, WhatATickSends}
 use Rattle.demands.proofs.Steps.{kind-folds, idle-folds}
 use Rattle.demands.proofs.Demand2.{frame-in-step}

@@ -2,9 +2,8 @@
 -- more (specs/Statements.antt). Each is its lemma over a run from any controller, carried over to the calls that were
 -- made. Assumes nothing.
 use Prim.Native.Nat.{ℕ, _≤_}
-use native.Mathlib.Omega.{arith}
 use mathlib.Core.Path.{_≡_, refl, sym, ap, subst, _∙_}
-use mathlib.Core.Bool.{Bool, true, false, cond, _||_, false≢true}
+use mathlib.Core.Bool.{Bool, true, false, cond}
 use mathlib.Core.List.{List, [], _∷_, map}
 use Rattle.units.specs.declared.TenthAmps.{TenthAmps}
 use Rattle.units.specs.Units.{lesserAmps}
@@ -16,26 +15,20 @@ use Rattle.session_states.specs.declared.phases.Phase.{Phase}
 use Rattle.session_states.specs.declared.phases.Phase.the-variants.{Drive, Rest, Hold}
 use Rattle.session_states.specs.Phases.{tooSmall, startPhase}
 use Rattle.session_states.specs.declared.states.State.{State}
-use Rattle.session_states.specs.declared.states.State.the-variants.{Idle, Parameters, Charging}
+use Rattle.session_states.specs.declared.states.State.the-variants.{Parameters, Charging}
 use Rattle.session_states.specs.States.{isIdle, isCharging}
 use Rattle.session_by_message.specs.Offer.{stationMaximum}
-use Rattle.session.specs.declared.Session.{Session}
-use Rattle.session.specs.Session.{opened}
 use Rattle.session_paper_counts.specs.Folds.{fold, foldPhase, foldState, foldCount, folds}
 use Rattle.controller.specs.declared.Controller.{Controller}
-use Rattle.controller.specs.declared.Answer.{Answer}
-use Rattle.controller.specs.Start.{freshOf}
-use Rattle.demands.specs.Machine.{Call, Read, Receive, Tick, Write, Box, NoController, Using, Seen, boxAfter, paperNext, seenOf, framesSeen}
+use Rattle.demands.specs.Machine.{Call, Read, Receive, Tick, Write, Box, Using, Seen, paperNext, seenOf, framesSeen}
 use Rattle.demands.specs.InStep.{codeOf, codeBox}
 use Rattle.demands.specs.Calls.{CallMade, DidReceive, DidTick, callIn, KeepsPromise, boxThen, inHand, AllKeepPromises, callsIn}
 use Rattle.demands.specs.Steps.{Step, stepsOf, stepsMade}
 use Rattle.demands.specs.Since.{AfterCalls, useThen, useLast, Since}
 use Rattle.demands.specs.After.{after, afterAll, noSession, endsWithin}
-use Rattle.demands.specs.Says.{Says}
-use Rattle.demands.specs.Apart.{reaching}
-use Rattle.demands.specs.Silent.{feeds, Unheeded, Silence, ticksIn}
+use Rattle.demands.specs.Silent.{feeds, Unheeded, Silence}
 use Rattle.demands.specs.SilentIn.{UnheededIn, SilentIn}
-use Rattle.demands.specs.Reach.{chargingWith, UntilCvm, Follows}
+use Rattle.demands.specs.Reach.{chargingWith}
 use Rattle.demands.specs.Requests.{requestOf, requestIn, AllAskWithin}
 use Rattle.demands.specs.Told.{isOver, endsIn}
 use Rattle.demands.specs.Statements.{NextCalls, Undisturbed, Unmoved, Within801, SilentStation, CimHoldsNothing, CrmHoldsNothing, ReachesCharging, FromCimToCharging, NoSooner, Demand1, Demand2, NeverAboveTheMaximum, NoRequestAbove}

@@ -1,7 +1,7 @@
 -- Answers that keep the promises: whatever is called of a controller, there is an answer as its entry point promises
 -- it. So no statement over calls that were made is empty. Assumes nothing.
 use Prim.Native.Nat.{ℕ, _*_}
-use mathlib.Core.Path.{_≡_, refl, sym, ap, subst, _∙_}
+use mathlib.Core.Path.{_≡_, refl, sym, ap, subst}
 use mathlib.Core.Bool.{Bool, true, false, cond}
 use mathlib.Core.List.{List, [], _∷_, _++_}
 use lib.IntN.{ℤ}
@@ -9,7 +9,6 @@ use lib.ListN.{length, drop}
 use Rattle.frames.specs.Frame.{recordSize, recordsOf}
 use Rattle.readings.specs.declared.Readings.{Readings}
 use Rattle.settings.specs.declared.Settings.{Settings}
-use Rattle.settings.specs.declared.SettingsRead.{SettingsRead}
 use Rattle.settings.specs.declared.SettingsRead.the-variants as read
 use Rattle.settings.specs.Range.{inRange}
 use Rattle.settings.specs.Read.{layoutOf, settingsOf, recordNumber, readOf}

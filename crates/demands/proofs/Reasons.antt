@@ -3,7 +3,7 @@
 use Prim.Native.Nat.{ℕ, _/_}
 use mathlib.Core.Path.{_≡_, refl, subst}
 use mathlib.Core.Bool.{Bool, true, false, cond, _&&_, _||_}
-use lib.Dec.{leb, ltb}
+use lib.Dec.{leb}
 use Rattle.units.specs.declared.TenthAmps.{TenthAmps}
 use Rattle.units.specs.Units.{halvedAmps}
 use Rattle.settings.specs.declared.Settings.{Settings}
@@ -24,7 +24,7 @@ use Rattle.session_by_tick.specs.Turns.{cellFull, packFull, currentAbove, stopO
 use Rattle.session.specs.declared.Session.{Session}
 use Rattle.session.specs.Tick.{turnedBy, turnIn}
 use Rattle.session_paper_counts.specs.Literal.{grown, counted, literalIn, literalAdvance, literalTick}
-use Rattle.session_states.specs.Limits.{silenceLimit, closingLimit, driveLimit, restLimit, holdLimit, leastRequest, mostDrives}
+use Rattle.session_states.specs.Limits.{silenceLimit, closingLimit, driveLimit, restLimit, holdLimit, mostDrives}
 use Rattle.demands.specs.Stops.{Why, GoesOn, AtSilenceLimit, NotWantedBefore, NotWantedCharging, CurrentAbove, PackFull, TimeUp, CellFull, AtClosingLimit}
 use Rattle.demands.specs.Stops.{timeUp, inHold, whyIn, whyOf, ChargesAs, GoesOnAs, LeadsTo}
 

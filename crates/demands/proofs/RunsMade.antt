@@ -1,7 +1,7 @@
 -- Two runs as calls that were made, from the start: the settings record of `ours` is read, and the station's CIM opens a
 -- session. In the one the station falls silent and the session lives through 800 ticks; in the other the station
 -- follows the handshake, and after eight ticks the session is in Charging. Assumes nothing.
-use Prim.Native.Nat.{ℕ, _+_, _≤_}
+use Prim.Native.Nat.{ℕ}
 use native.Mathlib.Omega.{arith}
 use mathlib.Core.Path.{_≡_, refl, sym, ap, subst, _∙_}
 use mathlib.Core.Bool.{true, false, false≢true}
@@ -17,10 +17,10 @@ use Rattle.session.specs.Session as session
 use Rattle.session_paper_counts.specs.Folds.{fold, foldState, foldCount, folds}
 use Rattle.controller.specs.declared.Controller.{Controller}
 use Rattle.controller.specs.Start.{freshOf}
-use Rattle.demands.specs.Machine.{Call, Read, Box, NoController, Using}
+use Rattle.demands.specs.Machine.{Call, Read, Box, Using}
 use Rattle.demands.specs.InStep.{codeOf}
-use Rattle.demands.specs.Calls.{CallMade, DidRead, callIn, KeepsPromise, AllKeepPromises, boxThen, callsIn, boxLast}
-use Rattle.demands.specs.Steps.{stepsOf, stepsMade}
+use Rattle.demands.specs.Calls.{CallMade, callIn, AllKeepPromises, callsIn, boxLast}
+use Rattle.demands.specs.Steps.{stepsMade}
 use Rattle.demands.specs.Since.{AfterCalls, useThen, useLast}
 use Rattle.demands.specs.After.{after, afterAll, noSession, endsWithin}
 use Rattle.demands.specs.Silent.{isAcceptedTick, ticksIn}
@@ -31,7 +31,7 @@ use Rattle.demands.specs.Statements.{EightHundredAreNotEnough, EightAreE
 use Rattle.demands.proofs.StepsMade.{its-own, use-is, steps-from-use, last-use, one-call-more}
 use Rattle.demands.proofs.Promised.{promised, promise-kept, promised-is, allPromised, promises-kept, promised-calls, read-first, read-kept, first-box, after-record}
 use Rattle.demands.proofs.Silent.{repeated, zeros, quietReadings, such-a-tick, not-within-800}
-use Rattle.demands.proofs.SilentRun.{afterCim, just-opened, tick, ticks-silent, ticks-many}
+use Rattle.demands.proofs.SilentRun.{just-opened, tick, ticks-silent, ticks-many}
 use Rattle.demands.proofs.ReachRun.{ours, settings-good, offer, cim, eight}
 use Rattle.demands.proofs.ReachRun as run
 use Rattle.demands.proofs.OfRuns.{ends-made, silence-to, last-session}

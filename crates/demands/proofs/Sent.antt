@@ -1,17 +1,17 @@
 -- The frames of a tick, each by its row of the table and its eight bytes; and that they are read back off the buffer as
 -- they were sent. Assumes nothing.
-use Prim.Native.Nat.{ℕ, zero, suc, _+_, _*_, _/_, _%_, _<_, _≤_}
+use Prim.Native.Nat.{ℕ, _+_, _*_, _/_, _%_}
 use native.Mathlib.Omega.{arith}
-use mathlib.Core.Path.{_≡_, refl, sym, ap, subst, _∙_}
+use mathlib.Core.Path.{_≡_, refl}
 use mathlib.Core.Bool.{Bool, true, false, cond}
 use mathlib.Core.List.{List, [], _∷_, _++_, append-assoc}
-use lib.Dec.{eqb, ltb}
+use lib.Dec.{eqb}
 use lib.IntN.{ℤ}
 use lib.ListN.{length, drop}
 use Rattle.messages.specs.declared.table.Row.{Row}
-use Rattle.messages.specs.Table.{pfOf, broadcastPs, EIM, EVM, ECP, ERM, ECR, ECS, ESM, EST, EDM, EEM, PS, CVS, CTS, FWS, EC}
+use Rattle.messages.specs.Table.{EIM, EVM, ECP, ERM, ECR, ECS, ESM, EST, EDM, EEM, PS, CVS, CTS, FWS, EC}
 use Rattle.frames.specs.declared.Frame.{Frame}
-use Rattle.frames.specs.Frame.{recordSize, frameOf, fourBytes, frameRecord, recordsOf, eightOf}
+use Rattle.frames.specs.Frame.{recordSize, frameOf, frameRecord, recordsOf, eightOf}
 use Rattle.settings.specs.declared.Settings.{Settings}
 use Rattle.settings.specs.declared.Versions.{Versions}
 use Rattle.readings.specs.declared.Readings.{Readings}

@@ -1,11 +1,14 @@
 -- Every statement of specs/Statements.antt and its theorem, in the statements' order. Assumes nothing.
-use Rattle.demands.specs.Statements.{WhatEndsASession, EachEndsASession, EstGone, EimGone, EcpGone, ErmGone, EarlyAcknowledgement, WhatEndsACharge, EachEndsACharge, WhatATickDoes, WhatATickSends, WhatARefusedTickDoes, WhatATickDoesInIdle, Over, EachOpens, ReplayedAcknowledgement, CvmTaken, CmpTaken, CrmTaken, WhatAMessageDoes, Undisturbed, Unreached, Unmoved, Within801, EightHundredAreNotEnough, SilentStation, CimHoldsNothing, CrmHoldsNothing, ReachesCharging, FromCimToCharging, NoSooner, EightAreEnough, Demand1, TheNumbers, Demand2, AnyCallsCanBeMade, NeverAboveTheMaximum, NoRequestAbove, TheWorkedRows, ThePapersNumbers}
+use Rattle.demands.specs.Statements.{WhatEndsASession, EachEndsASession, EstGone, EimGone, EcpGone, ErmGone, EarlyAcknowledgement, WhatEndsACharge, EachEndsACharge, EstEachTick, ClosingEnds, WhatATickDoes, WhatATickSends, WhatARefusedTickDoes, WhatATickDoesInIdle, Over, EachOpens, ReplayedAcknowledgement, CvmTaken, CmpTaken, CrmTaken, WhatBeginsACharge, TheLastCmpCounts, WhatAMessageDoes, Undisturbed, Unreached, Unmoved, Within801, EightHundredAreNotEnough, SilentStation, CimHoldsNothing, CrmHoldsNothing, ReachesCharging, FromCimToCharging, NoSooner, EightAreEnough, Demand1, TheNumbers, Demand2, AnyCallsCanBeMade, NeverAboveTheMaximum, NotAboveTheStation, NoRequestAbove, NoRequestAboveTheStation, TheWorkedRows, ThePapersNumbers}
 use Rattle.demands.proofs.OfCalls as call
 use Rattle.demands.proofs.TickOfCalls as ticks
 use Rattle.demands.proofs.OfRuns as runs
 use Rattle.demands.proofs.RunsMade as made
 use Rattle.demands.proofs.Promised as promised
 use Rattle.demands.proofs.Numbers as table
+use Rattle.demands.proofs.BeginsCharge as begins
+use Rattle.demands.proofs.EcrSent as ecr
+use Rattle.demands.proofs.Closing as closing
 use Rattle.demands.proofs.WorkedRows as rows
 use Rattle.demands.proofs.PaperNumbers as numbers
 
@@ -36,6 +39,12 @@ what-ends-a-charge = call.what-ends-a-charge
 pub each-ends-a-charge : EachEndsACharge
 each-ends-a-charge = call.each-ends-a-charge
 
+pub est-each-tick : EstEachTick
+est-each-tick = closing.est-each-tick
+
+pub closing-ends : ClosingEnds
+closing-ends = closing.closing-ends
+
 pub what-a-tick-does : WhatATickDoes
 what-a-tick-does = ticks.what-a-tick-does
 
@@ -65,6 +74,12 @@ cmp-taken = call.cmp-taken
 
 pub crm-taken : CrmTaken
 crm-taken = call.crm-taken
+
+pub what-begins-a-charge : WhatBeginsACharge
+what-begins-a-charge = begins.what-begins-a-charge
+
+pub the-last-cmp-counts : TheLastCmpCounts
+the-last-cmp-counts = begins.the-last-cmp-counts
 
 pub what-a-message-does : WhatAMessageDoes
 what-a-message-does = call.what-a-message-does
@@ -120,8 +135,14 @@ any-calls-can-be-made = promised.any-calls-can-be-made
 pub never-above-the-maximum : NeverAboveTheMaximum
 never-above-the-maximum = runs.never-above-the-maximum
 
+pub not-above-the-station : NotAboveTheStation
+not-above-the-station = begins.not-above-the-station
+
 pub no-request-above : NoRequestAbove
 no-request-above = runs.no-request-above
+
+pub no-request-above-the-station : NoRequestAboveTheStation
+no-request-above-the-station = ecr.no-request-above-the-station
 
 pub the-worked-rows : TheWorkedRows
 the-worked-rows = rows.worked-rows

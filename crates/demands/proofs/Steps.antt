@@ -1,18 +1,13 @@
 -- One call of the paper's machine beside one of the code's, from every controller. Assumes nothing.
-use Prim.Native.Nat.{ℕ, _+_, _/_, _%_}
+use Prim.Native.Nat.{ℕ}
 use mathlib.Core.Path.{_≡_, refl, ap}
 use mathlib.Core.Bool.{Bool, true, false, cond}
 use mathlib.Core.List.{List}
-use native.Mathlib.Omega.{arith}
-use borrow.Author.Tests.{ltb-true, ltb-false}
-use lib.Dec.{ltb}
 use lib.IntN.{ℤ}
 use Rattle.messages.specs.declared.received.Charge.{Charge}
 use Rattle.messages.specs.Identifier.{partsOf}
 use Rattle.readings.specs.declared.Readings.{Readings}
 use Rattle.settings.specs.declared.Settings.{Settings}
-use Rattle.settings.specs.declared.Versions.{Versions}
-use Rattle.cells.specs.declared.Cells.{Cells}
 use Rattle.cells.specs.Summaries.{cellsOf}
 use Rattle.charge_messages.specs.declared.Content.{Content}
 use Rattle.charge_messages.specs.declared.Content.the-variants as content
@@ -21,7 +16,6 @@ use Rattle.session_states.specs.declared.states.State.{State}
 use Rattle.session_states.specs.declared.states.State.the-variants.{Idle, Offered, Unverified, Parameters, Ready, Charging, Stopping, Error}
 use Rattle.session.specs.declared.Session.{Session}
 use Rattle.broadcasts.proofs.InStep.{next-kept, broadcasts-kept}
-use Rattle.broadcasts.specs.Sendings.{broadcastAt}
 use Rattle.session_states.specs.declared.phases.Phase.{Phase}
 use Rattle.session_paper_counts.specs.Folds.{folds, foldPhase, foldState}
 use Rattle.session_paper_counts.proofs.InStep.{tick-in-step, frames-in-step}

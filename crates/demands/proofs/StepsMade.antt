@@ -2,10 +2,9 @@
 -- step they tell the same, but that the controllers before and after each call are those of the code. So what is shown
 -- of the machine's steps, and asks of a controller nothing but what the code's has too, holds of the calls made.
 -- Assumes nothing.
-use Prim.Native.Nat.{ℕ, _%_}
+use Prim.Native.Nat.{_%_}
 use native.Mathlib.Omega.{arith}
 use mathlib.Core.Path.{_≡_, refl, sym, ap, subst, _∙_}
-use mathlib.Core.Bool.{Bool, true, false, cond, false≢true}
 use mathlib.Core.List.{List, [], _∷_, _++_, map}
 use Rattle.session_paper_counts.specs.Folds.{folds}
 use Rattle.session_paper_counts.proofs.Again.{folds-again}
@@ -13,12 +12,11 @@ use Rattle.broadcasts.specs.Beat.{twoSendings}
 use Rattle.controller.specs.declared.Controller.{Controller}
 use Rattle.controller.specs.declared.Start.{Start}
 use Rattle.controller.specs.declared.Start.the-variants.{Made, Refused}
-use Rattle.controller.specs.Tick.{tickNext}
-use Rattle.demands.specs.Machine.{Call, Box, NoController, Using, paperNext, started, boxAfter, seenOf, boxAt}
+use Rattle.demands.specs.Machine.{Box, NoController, Using, paperNext, started, boxAfter, seenOf, boxAt}
 use Rattle.demands.specs.InStep.{codeOf, codeBox}
 use Rattle.demands.specs.Calls.{CallMade, DidRead, DidReceive, DidTick, DidWrite, callIn, KeepsPromise, boxThen, inHand, AllKeepPromises, callsIn, boxLast}
 use Rattle.demands.specs.Steps.{Step, stepsOf, stepsMade}
-use Rattle.demands.specs.After.{after, afterAll}
+use Rattle.demands.specs.After.{after}
 use Rattle.demands.specs.Since.{AfterCalls, madeOr, useThen, useLast}
 use Rattle.demands.proofs.Demand2.{after-in-step, seen-in-step, box-from}
 use Rattle.demands.proofs.Calls.{one-seen, one-box, all-boxes}

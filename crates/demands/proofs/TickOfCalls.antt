@@ -1,14 +1,12 @@
 -- What an accepted tick does, of the calls that were made: the code's controller enters the state that the paper's
 -- rules lead to, with the phase one tick older as the paper counts, since a phase that goes on is below its limit.
 -- Assumes nothing.
-use Prim.Native.Nat.{ℕ, _+_, _≤_, _<_}
+use Prim.Native.Nat.{ℕ, _+_, _<_}
 use native.Mathlib.Omega.{arith}
 use mathlib.Core.Path.{_≡_, refl, sym, ap, subst, _∙_}
 use mathlib.Core.Bool.{Bool, true, false, cond}
-use mathlib.Core.List.{List}
 use borrow.Author.Tests.{leb-false}
 use lib.Dec.{leb}
-use lib.IntN.{ℤ}
 use Rattle.units.specs.declared.TenthAmps.{TenthAmps}
 use Rattle.units.specs.Units.{halvedAmps}
 use Rattle.settings.specs.declared.Settings.{Settings}
@@ -28,8 +26,6 @@ use Rattle.session.specs.declared.Session.{Session}
 use Rattle.session_paper_counts.specs.Folds.{foldPhase, foldState, folds}
 use Rattle.session_paper_counts.specs.Literal.{older}
 use Rattle.session_paper_counts.proofs.Fold.{fold-up-to}
-use Rattle.controller.specs.declared.Controller.{Controller}
-use Rattle.controller.specs.declared.Ticked.{Ticked}
 use Rattle.demands.specs.Machine.{Tick}
 use Rattle.demands.specs.Calls.{DidTick, callIn}
 use Rattle.demands.specs.Since.{useThen}

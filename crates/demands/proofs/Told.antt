@@ -1,11 +1,9 @@
 -- Demand 3 of the calls that were made: what they tell of a session is the machine's life of it, and what they tell
 -- beside it is the machine's output; so `undisturbed` and `unmoved` hold of the calls. Assumes nothing.
 use Prim.Native.Nat.{ℕ, _+_}
-use native.Mathlib.Omega.{arith}
-use mathlib.Core.Path.{_≡_, refl, sym, ap, subst, _∙_}
-use mathlib.Core.Bool.{Bool, true, false, cond, _||_, false≢true}
+use mathlib.Core.Path.{_≡_, refl, sym, ap, _∙_}
+use mathlib.Core.Bool.{Bool, true, false, cond, _||_}
 use mathlib.Core.List.{List, [], _∷_, _++_, map}
-use lib.Dec.{eqb}
 use lib.IntN.{ℤ}
 use lib.ListN.{length, length-append}
 use borrow.Author.Tests.{eqb-true}
@@ -14,24 +12,22 @@ use Rattle.readings.specs.declared.Readings.{Readings}
 use Rattle.settings.specs.Read.{readOf}
 use Rattle.refusals.specs.Tick.{tickNumber}
 use Rattle.refusals.proofs.Fine.{fine}
-use Rattle.session_states.specs.States.{isIdle}
 use Rattle.session.specs.declared.Session.{Session}
 use Rattle.session_paper_counts.specs.Folds.{folds}
 use Rattle.session_paper_counts.proofs.InStep.{start-in-step}
 use Rattle.cells.specs.Tables.{tablesFit}
 use Rattle.controller.specs.declared.Controller.{Controller}
-use Rattle.controller.specs.Frame.{frameTo}
 use Rattle.controller.specs.Tick.{tickFrames, chargeFrames, broadcastFrames, cellFrames}
 use Rattle.demands.specs.Machine.{Call, Read, Receive, Tick, Write, Box, NoController, Using, Seen, paperNext, boxAfter, seenOf, numberSeen, framesSeen}
 use Rattle.demands.specs.InStep.{codeOf, codeBox}
 use Rattle.demands.specs.Calls.{CallMade, AllKeepPromises, callsIn}
 use Rattle.demands.specs.Steps.{Step, stepsOf, stepsMade}
-use Rattle.demands.specs.FrameKinds.{isChargeFrame, isBroadcast, isCellFrame, only}
-use Rattle.demands.specs.After.{accepts, isRead, after, noSession, endsWithin, isCharge}
-use Rattle.demands.specs.Apart.{fromStation, reaches, emptied, reaching, Moment, AfterFrame, AfterTick, AfterRecord, sentAt, moments, life, Alike}
-use Rattle.demands.specs.Unmoved.{Output, others, besideAt, outputAt, outputs, Beside}
+use Rattle.demands.specs.FrameKinds.{isChargeFrame, only}
+use Rattle.demands.specs.After.{accepts, isRead, after, noSession, endsWithin}
+use Rattle.demands.specs.Apart.{fromStation, reaches, emptied, reaching, Moment, AfterFrame, AfterTick, AfterRecord, sentAt, moments, life}
+use Rattle.demands.specs.Unmoved.{Output, others, besideAt, outputAt, outputs}
 use Rattle.demands.specs.Since.{AfterCalls}
-use Rattle.demands.specs.Told.{isOver, sessionIn, momentOf, momentAt, lifeIn, Place, Never, With, further, placeOfEnd, endsIn, isBeside, outputOf, outputsIn}
+use Rattle.demands.specs.Told.{isOver, sessionIn, momentOf, momentAt, lifeIn, Never, With, further, placeOfEnd, endsIn, isBeside, outputOf, outputsIn}
 use Rattle.demands.proofs.Steps.{idle-folds}
 use Rattle.demands.proofs.Since.{after-is, seen-tick, seen-frame}
 use Rattle.demands.proofs.StepsMade.{codeStep, its-own, steps-from-use, use-bytes}

@@ -3,7 +3,7 @@
 -- `no-request-above`; that a tick's frames are told apart so is `charge-frames-told`, `broadcasts-told` and
 -- `cell-frames-told`.
 use Prim.Native.Nat.{ℕ}
-use mathlib.Core.Bool.{Bool, true, false, cond, _&&_, _||_}
+use mathlib.Core.Bool.{Bool, false, cond, _&&_, _||_}
 use mathlib.Core.List.{List, [], _∷_}
 use lib.Dec.{eqb, leb, ltb}
 use Rattle.messages.specs.declared.table.Row.{Row}

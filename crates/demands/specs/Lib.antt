@@ -23,6 +23,6 @@ pub mod Requests
 pub mod Since
 pub mod Reach
 pub mod GoneOut
-pub mod Statements
 pub mod Offers
 pub mod Closing
+pub mod Statements

@@ -1,8 +1,8 @@
 -- "Numbers returned" (01), the table: a line a number, in numeric order, each with what it is "given exactly when". A
 -- call is answered by the first of its numbers whose test holds, and by 0 where none does. For `the-numbers`.
 use Prim.Native.Nat.{ℕ}
-use mathlib.Core.Bool.{Bool, true, false, not, cond, _&&_}
-use mathlib.Core.List.{List, [], _∷_, _++_}
+use mathlib.Core.Bool.{Bool, false, not, cond, _&&_}
+use mathlib.Core.List.{List, [], _∷_}
 use lib.Dec.{eqb, leb, ltb}
 use lib.ListN.{length}
 use Rattle.messages.specs.declared.received.Charge.{Charge}

@@ -4,14 +4,12 @@
 -- `the-last-cmp-counts`, `not-above-the-station` and `no-request-above-the-station`.
 use Prim.Native.Nat.{ℕ, _+_, _≤_}
 use mathlib.Core.Path.{_≡_}
-use mathlib.Core.Bool.{Bool, true, false, cond}
+use mathlib.Core.Bool.{Bool, true, cond}
 use mathlib.Core.List.{List, [], _∷_}
-use lib.IntN.{ℤ}
 use Rattle.messages.specs.declared.received.Charge.the-variants as charge
 use Rattle.units.specs.declared.TenthAmps.{TenthAmps}
 use Rattle.settings.specs.declared.Settings.{Settings}
 use Rattle.frames.specs.declared.Frame.{Frame}
-use Rattle.readings.specs.declared.Readings.{Readings}
 use Rattle.charge_messages.specs.declared.Offer.{Offer}
 use Rattle.charge_messages.specs.declared.ChargeMessage.{ChargeMessage}
 use Rattle.charge_messages.specs.declared.ChargeMessage.the-variants.{Cim, Cvm, Cmp, Crm, Ccs, Cst, Cem}
@@ -20,20 +18,16 @@ use Rattle.charge_messages.specs.declared.Content.the-variants as content
 use Rattle.charge_messages.specs.Content.{contentOf}
 use Rattle.session_states.specs.declared.states.State.{State}
 use Rattle.session_states.specs.declared.states.State.the-variants.{Ready, Charging}
-use Rattle.session_states.specs.States.{isReady, isCharging}
+use Rattle.session_states.specs.States.{isReady}
 use Rattle.session_states.specs.Phases.{startPhase}
 use Rattle.session_by_message.specs.Offer.{acceptedOf, stationMaximum}
 use Rattle.controller.specs.declared.Controller.{Controller}
-use Rattle.controller.specs.declared.Ticked.{Ticked}
 use Rattle.demands.specs.Machine.{Call, Read, Receive, Tick, Write, NoController}
-use Rattle.demands.specs.Calls.{CallMade, DidTick, callIn}
+use Rattle.demands.specs.Calls.{CallMade}
 use Rattle.demands.specs.Steps.{Step, stepsMade}
-use Rattle.demands.specs.Since.{AfterCalls, useThen}
 use Rattle.demands.specs.Says.{Says}
-use Rattle.demands.specs.GoneOut.{isCmp, takes, erm}
-use Rattle.demands.specs.Requests.{requestIn, isEcr, currentWord}
-use Rattle.demands.specs.Sent.{framesWritten}
-use Rattle.demands.specs.Statements.{NextCall, hasGone}
+use Rattle.demands.specs.GoneOut.{isCmp, takes}
+use Rattle.demands.specs.Requests.{isEcr, currentWord}
 
 -- ---- the last CMP taken
 -- none was taken yet; or the last made this offer
@@ -117,33 +111,3 @@ pub record BeginsCharge (gone : Bool) (last : LastOffer) (c : Controller) (k : C
   pub made : last ≡ Offered offer
   pub answer : acceptedOf (c .settings) offer ≡ true
   pub phase : to ≡ Charging (startPhase (c .settings .limits .current) (stationMaximum offer))
-
--- ---- THE STATEMENTS
--- "What begins a charge": after any calls from the start, a call after which a session is in Charging that was not so
--- before is such a CRM AA
-abbrev pub WhatBeginsACharge : Type 0
-WhatBeginsACharge =
-    (ms : List CallMade) (c : Controller) (m : CallMade) → AfterCalls ms c → NextCall c m
-    → isCharging (c .session .state) ≡ false → isCharging (useThen c m .session .state) ≡ true
-    → BeginsCharge (hasGone erm ms) (lastTaken ms) c (callIn m) (useThen c m .session .state)
-
--- "Each CMP, the entering one too, sets yes or no": after any calls from the start, Ready's yes or no and the station's
--- maximum are those of the last CMP taken
-abbrev pub TheLastCmpCounts : Type 0
-TheLastCmpCounts =
-    (ms : List CallMade) (c : Controller) (accepted : Bool) (maximum : TenthAmps) → AfterCalls ms c
-    → c .session .state ≡ Ready accepted maximum → OfOffer (c .settings) (lastTaken ms) accepted maximum
-
--- "R is the smaller of maximum current and the station's maximum": what a session in Charging asks for is never above
--- the maximum that the last CMP taken offers
-abbrev pub NotAboveTheStation : Type 0
-NotAboveTheStation =
-    (ms : List CallMade) (c : Controller) → AfterCalls ms c → isCharging (c .session .state) ≡ true
-    → WithinOffer (lastTaken ms) (requestIn (c .session .state))
-
--- and as sent: nor does any ECR in the buffer of the next tick ask more, told by its bytes
-abbrev pub NoRequestAboveTheStation : Type 0
-NoRequestAboveTheStation =
-    (ms : List CallMade) (c : Controller) (r : Readings) (v : List ℕ) (t : List ℤ) (old new : List ℕ) (k : Ticked)
-    → AfterCalls ms c → NextCall c (DidTick r v t old new k)
-    → AllAskWithinOffer (lastTaken ms) (framesWritten (k .bytes) new)

@@ -3,7 +3,7 @@
 -- paper's value: none of them can move in a definition and its code together unseen. For `the-papers-numbers`.
 use Prim.Native.Nat.{ℕ}
 use mathlib.Core.Path.{_≡_}
-use mathlib.Core.List.{List, [], _∷_}
+use mathlib.Core.List.{[], _∷_}
 use Rattle.messages.specs.declared.table.Row.{Row}
 use Rattle.messages.specs.Table.{sentLength, rows}
 use Rattle.messages.specs.Identifier.{firstBroadcast}

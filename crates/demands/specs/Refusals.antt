@@ -3,7 +3,7 @@
 -- is a CIM". For `demand-1`.
 use Prim.Native.Nat.{ℕ}
 use mathlib.Core.Path.{_≡_}
-use mathlib.Core.Bool.{Bool, true, false, not, cond, _&&_}
+use mathlib.Core.Bool.{Bool, not, cond, _&&_}
 use mathlib.Core.List.{List, []}
 use lib.Dec.{eqb}
 use Rattle.messages.specs.Table.{pfOf, CIM}

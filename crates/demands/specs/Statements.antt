@@ -8,8 +8,10 @@ use Prim.Native.Nat.{ℕ, _≤_}
 use mathlib.Core.Logic.{_⊎_}
 use mathlib.Core.Path.{_≡_}
 use mathlib.Core.Bool.{Bool, true, false, cond}
-use mathlib.Core.List.{List, [], _∷_, _++_, map}
+use mathlib.Core.List.{List, _∷_, _++_, map}
 use lib.IntN.{ℤ}
+use Rattle.units.specs.declared.TenthAmps.{TenthAmps}
+use Rattle.messages.specs.Table.{EST}
 use Rattle.messages.specs.Identifier.{partsOf}
 use Rattle.settings.specs.declared.Settings.{Settings}
 use Rattle.settings.specs.declared.SettingsRead.the-variants as read
@@ -20,7 +22,7 @@ use Rattle.charge_messages.specs.declared.Offer.{Offer}
 use Rattle.charge_messages.specs.declared.ChargeMessage.{ChargeMessage}
 use Rattle.charge_messages.specs.declared.ChargeMessage.the-variants.{Cim, Cvm, Cmp, Crm, Cst}
 use Rattle.session_states.specs.declared.phases.Phase.{Phase}
-use Rattle.session_states.specs.declared.states.State.the-variants.{Idle, Parameters, Charging}
+use Rattle.session_states.specs.declared.states.State.the-variants.{Parameters, Ready, Charging}
 use Rattle.session_states.specs.States.{isCharging, isStopping, isOffered, isParameters, isReady}
 use Rattle.session_by_message.specs.Message.{outcomeNumber, outcomeOf}
 use Rattle.session.specs.Session.{opened}
@@ -32,10 +34,10 @@ use Rattle.controller.specs.declared.Ticked.{Ticked}
 use Rattle.controller.specs.With.{withSession}
 use Rattle.controller.specs.Frame.{mayCharge}
 use Rattle.controller.specs.Tick.{chargeFrames, broadcastFrames, cellFrames}
-use Rattle.demands.specs.Machine.{Call, Read, Receive, Box, NoController, Using, paperNext, run, boxAt}
+use Rattle.demands.specs.Machine.{Call, Read, Box, NoController, Using, paperNext, run, boxAt}
 use Rattle.demands.specs.InStep.{InStep}
-use Rattle.demands.specs.Calls.{CallMade, DidRead, DidReceive, DidTick, DidWrite, callIn, KeepsPromise, AllKeepPromises, callsIn, allInHand, boxLast}
-use Rattle.demands.specs.Steps.{Step, stepsMade}
+use Rattle.demands.specs.Calls.{CallMade, DidReceive, DidTick, callIn, KeepsPromise, AllKeepPromises, callsIn, allInHand, boxLast}
+use Rattle.demands.specs.Steps.{stepsMade}
 use Rattle.demands.specs.Since.{AfterCalls, useThen, useLast}
 use Rattle.demands.specs.Refusals.{numberGiven, LeftAsItWas}
 use Rattle.demands.specs.Numbers.{firstGiven, linesOf}
@@ -44,7 +46,7 @@ use Rattle.demands.specs.Says.{Says}
 use Rattle.demands.specs.Stops.{whyOf, LeadsTo}
 use Rattle.demands.specs.Ends.{EndsSession, EndsCharge}
 use Rattle.demands.specs.Over.{Opens, Ignored}
-use Rattle.demands.specs.GoneOut.{Watch, gone, eim, ecp, erm, est, isReadyYes, sinceFirstTick, sinceFirstEcp}
+use Rattle.demands.specs.GoneOut.{Watch, holds, isOurs, gone, eim, ecp, erm, est, isReadyYes, sinceFirstTick, sinceFirstEcp}
 use Rattle.demands.specs.Apart.{reaches, emptied, reaching}
 use Rattle.demands.specs.Unmoved.{others}
 use Rattle.demands.specs.Told.{lifeIn, placeOfEnd, endsIn, outputsIn}
@@ -53,6 +55,8 @@ use Rattle.demands.specs.SilentIn.{SilentIn}
 use Rattle.demands.specs.SilentSlips.{isCim, isHandshake, SaysOnly}
 use Rattle.demands.specs.Reach.{UntilCvm, Follows, chargingWith}
 use Rattle.demands.specs.Requests.{requestIn, AllAskWithin}
+use Rattle.demands.specs.Offers.{lastTaken, OfOffer, WithinOffer, AllAskWithinOffer, BeginsCharge}
+use Rattle.demands.specs.Closing.{isClosing, longestClosing}
 use Rattle.demands.specs.Sent.{framesWritten}
 use Rattle.demands.specs.WorkedRows.{WorkedRows}
 use Rattle.demands.specs.PaperNumbers.{PaperNumbers}
@@ -129,6 +133,23 @@ EachEndsACharge =
     → isCharging (c .session .state) ≡ true → EndsCharge c (callIn m)
     → isCharging (useThen c m .session .state) ≡ false
 
+-- "Stopping EST each tick": an accepted tick after which the session is in Stopping, its first there or a later one,
+-- leaves an EST of ours to the session's station in the buffer
+abbrev pub EstEachTick : Type 0
+EstEachTick =
+    (ms : List CallMade) (c : Controller) (r : Readings) (v : List ℕ) (t : List ℤ) (old new : List ℕ) (k : Ticked)
+    → AfterCalls ms c → NextCall c (DidTick r v t old new k) → k .number ≡ 0
+    → isStopping (k .controller .session .state) ≡ true
+    → holds (isOurs EST (c .settings) (c .session .station)) (framesWritten (k .bytes) new) ≡ true
+
+-- "Stopping and Error end to Idle at count 600": after any calls from the start, a session in Stopping or in Error has
+-- ended within 601 accepted ticks, whatever its station and others send
+abbrev pub ClosingEnds : Type 0
+ClosingEnds =
+    (ps : List CallMade) (c : Controller) (ms : List CallMade) → AfterCalls ps c → NextCalls c ms
+    → isClosing (c .session .state) ≡ true → longestClosing ≤ ticksIn (callsIn ms)
+    → endsIn (stepsMade (Using c) ms) ≡ true
+
 -- "What a tick does": an accepted tick leads where the first of the paper's rules that holds says
 abbrev pub WhatATickDoes : Type 0
 WhatATickDoes =
@@ -201,6 +222,21 @@ CrmTaken =
     (ms : List CallMade) (c : Controller) (b : Bool) (id : ℕ) (s : List ℕ) (a : Answer) → AfterCalls ms c
     → NextCall c (DidReceive id s a) → Says (c .settings) (c .session .station) (Crm b) id s
     → isReady (c .session .state) ≡ true → a .number ≡ 0 → hasGone erm ms ≡ true
+
+-- "What begins a charge": after any calls from the start, a call after which a session is in Charging that was not so
+-- before is such a CRM AA
+abbrev pub WhatBeginsACharge : Type 0
+WhatBeginsACharge =
+    (ms : List CallMade) (c : Controller) (m : CallMade) → AfterCalls ms c → NextCall c m
+    → isCharging (c .session .state) ≡ false → isCharging (useThen c m .session .state) ≡ true
+    → BeginsCharge (hasGone erm ms) (lastTaken ms) c (callIn m) (useThen c m .session .state)
+
+-- "Each CMP, the entering one too, sets yes or no": after any calls from the start, Ready's yes or no and the station's
+-- maximum are those of the last CMP taken
+abbrev pub TheLastCmpCounts : Type 0
+TheLastCmpCounts =
+    (ms : List CallMade) (c : Controller) (accepted : Bool) (maximum : TenthAmps) → AfterCalls ms c
+    → c .session .state ≡ Ready accepted maximum → OfOffer (c .settings) (lastTaken ms) accepted maximum
 
 -- "What each message does in each state, when it comes from the session's own station (in Idle: from a station of the
 -- settings' list)": the number and the session's record are those of the table `outcomeOf`, and nothing else changes
@@ -355,6 +391,13 @@ NeverAboveTheMaximum =
     (ms : List CallMade) (c : Controller) → AfterCalls ms c
     → requestIn (c .session .state) ≤ c .settings .limits .current .0
 
+-- "R is the smaller of maximum current and the station's maximum": what a session in Charging asks for is never above
+-- the maximum that the last CMP taken offers
+abbrev pub NotAboveTheStation : Type 0
+NotAboveTheStation =
+    (ms : List CallMade) (c : Controller) → AfterCalls ms c → isCharging (c .session .state) ≡ true
+    → WithinOffer (lastTaken ms) (requestIn (c .session .state))
+
 -- "no ECR frame of any run asks more than the settings' maximum current, nor in Hold more than the maximum pack
 -- voltage, told by the bytes sent"
 abbrev pub NoRequestAbove : Type 0
@@ -362,6 +405,13 @@ NoRequestAbove =
     (ms : List CallMade) (c : Controller) (r : Readings) (v : List ℕ) (t : List ℤ) (old new : List ℕ) (k : Ticked)
     → AfterCalls ms c → NextCall c (DidTick r v t old new k)
     → AllAskWithin (c .settings) (framesWritten (k .bytes) new)
+
+-- and as sent: nor does any ECR in the buffer of the next tick ask more, told by its bytes
+abbrev pub NoRequestAboveTheStation : Type 0
+NoRequestAboveTheStation =
+    (ms : List CallMade) (c : Controller) (r : Readings) (v : List ℕ) (t : List ℤ) (old new : List ℕ) (k : Ticked)
+    → AfterCalls ms c → NextCall c (DidTick r v t old new k)
+    → AllAskWithinOffer (lastTaken ms) (framesWritten (k .bytes) new)
 
 -- "the rows marked P, as one table under a single statement"; "each number behind a name is the paper's"
 abbrev pub TheWorkedRows : Type 0

@@ -1,7 +1,6 @@
 -- A run told call by call: what a call found, the call, what it gave back and what it left. Of the paper's machine, and
 -- of calls that were made; that the two tell the same is `steps-made`. For every statement over a run of calls.
 use mathlib.Core.List.{List, [], _∷_}
-use Rattle.controller.specs.declared.Controller.{Controller}
 use Rattle.demands.specs.Machine.{Call, Box, Seen, paperNext, boxAfter, seenOf}
 use Rattle.demands.specs.Calls.{CallMade, callIn, boxThen, inHand}
 
