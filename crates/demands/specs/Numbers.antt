@@ -44,7 +44,8 @@ isShort s (recognized.Refused n) = false
 
 -- the message, with its content, is not taken in this state
 unfoldable pub notTaken : Controller → Content → Bool
-notTaken c (content.Allowed m) = eqb (outcomeNumber (outcomeOf (c .settings) (c .session .state) (c .session .count) m)) 11
+notTaken c (content.Allowed m) =
+    eqb (outcomeNumber (outcomeOf (c .settings) (c .session .state) (c .session .count) m)) 11
 notTaken c (content.Refused n) = false
 
 -- a charge message, and a query, from a source

@@ -1,5 +1,5 @@
--- The numbers that the paper sets and that stand behind a name in the definitions (01, "Identifier and message numbers",
--- "Settings record", "Readings", "Numbers returned", "Session by tick", "Broadcasts and cell answers"), each with the
+-- The numbers that the paper sets and that stand behind a name in the definitions (01, "Identifier and message
+-- numbers", "Settings record", "Readings", "Numbers returned", "Session by tick", "Broadcasts and cell answers"), each with the
 -- paper's value: none of them can move in a definition and its code together unseen. For `the-papers-numbers`.
 use Prim.Native.Nat.{ℕ}
 use mathlib.Core.Path.{_≡_}
@@ -23,11 +23,12 @@ abbrev pub row : ℕ → ℕ → ℕ → ℕ → Row
 row pf priority length ps = record { 0 = pf; 1 = priority; 2 = length; 3 = ps }
 
 pub record PaperNumbers : Type 0 where
-  -- "Station to us": CIM, CVM, CMP, CRM, CCS, CST, CEM; "Any node to us": ACV, ACT; "Us to station": EIM, EVM, ECP, ERM,
-  -- ECR, ECS, ESM, EST, EDM, EEM; "Broadcast": PS, CVS, CTS, FWS, EC; "4 voltages at PF 31 hex up or 8 temperatures at
-  -- 81 up, priority 7"
+  -- "Station to us": CIM, CVM, CMP, CRM, CCS, CST, CEM; "Any node to us": ACV, ACT; "Us to station": EIM, EVM, ECP,
+  -- ERM, ECR, ECS, ESM, EST, EDM, EEM; "Broadcast": PS, CVS, CTS, FWS, EC; "4 voltages at PF 31 hex up or 8
+  -- temperatures at 81 up, priority 7"
   pub the-rows : rows
-      ≡ row 0x26 0 3 0 ∷ row 0x01 0 1 0 ∷ row 0x08 0 8 0 ∷ row 0x0a 0 1 0 ∷ row 0x12 0 5 0 ∷ row 0x16 0 3 0 ∷ row 0x1f 0 3 0
+      ≡ row 0x26 0 3 0 ∷ row 0x01 0 1 0 ∷ row 0x08 0 8 0 ∷ row 0x0a 0 1 0 ∷ row 0x12 0 5 0 ∷ row 0x16 0 3 0
+      ∷ row 0x1f 0 3 0
       ∷ row 0x1b 0 8 0 ∷ row 0x1c 0 8 0
       ∷ row 0x27 6 8 0 ∷ row 0x02 7 8 0 ∷ row 0x06 7 8 0 ∷ row 0x09 4 8 0 ∷ row 0x10 6 8 0 ∷ row 0x11 7 8 0
       ∷ row 0x13 6 8 0 ∷ row 0x15 4 8 0 ∷ row 0x1a 6 8 0 ∷ row 0x1e 2 8 0

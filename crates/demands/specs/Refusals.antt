@@ -1,6 +1,6 @@
 -- Demand 1: "a refusal carries its number, alters no state and writes no byte (one exception, at number 11)". The
--- exception is the paper's (01, "Numbers returned", 11): "from Offered to Ready the silence count returns to 0, unless it
--- is a CIM". For `demand-1`.
+-- exception is the paper's (01, "Numbers returned", 11): "from Offered to Ready the silence count returns to 0, unless
+-- it is a CIM". For `demand-1`.
 use Prim.Native.Nat.{ℕ}
 use mathlib.Core.Path.{_≡_}
 use mathlib.Core.Bool.{Bool, not, cond, _&&_}

@@ -68,8 +68,8 @@ NextCall c m = KeepsPromise (Using c) m
 abbrev pub NextCalls : Controller → List CallMade → Type 0
 NextCalls c ms = AllKeepPromises (Using c) ms
 
--- whether the frame watched for is among the frames that the calls have sent since the state watched began, in which the
--- session is now (in any other it is not); of ERM AA in Ready: since the last CMP taken
+-- whether the frame watched for is among the frames that the calls have sent since the state watched began, in which
+-- the session is now (in any other it is not); of ERM AA in Ready: since the last CMP taken
 abbrev pub hasGone : Watch → List CallMade → Bool
 hasGone w ms = gone w false (stepsMade NoController ms)
 
@@ -262,7 +262,8 @@ abbrev pub Undisturbed : Type 0
 Undisturbed =
     (ps : List CallMade) (c : Controller) (ms ns : List CallMade) → AfterCalls ps c → NextCalls c ms → NextCalls c ns
     → noSession c ≡ false
-    → map emptied (reaching (c .session .station) (callsIn ms)) ≡ map emptied (reaching (c .session .station) (callsIn ns))
+    → map emptied (reaching (c .session .station) (callsIn ms))
+    ≡ map emptied (reaching (c .session .station) (callsIn ns))
     → (lifeIn (c .session .station) (stepsMade (Using c) ms) ≡ lifeIn (c .session .station) (stepsMade (Using c) ns))
     × (placeOfEnd (c .session .station) (stepsMade (Using c) ms)
     ≡ placeOfEnd (c .session .station) (stepsMade (Using c) ns))
