@@ -16,8 +16,6 @@ use Rattle.cells.specs.declared.Cells.{Cells}
 use Rattle.cells.specs.Summaries.{cellsOf}
 use Rattle.charge_messages.specs.declared.ChargeMessage.{ChargeMessage}
 use Rattle.charge_messages.specs.declared.ChargeMessage.the-variants.{Cim, Cvm, Cmp, Crm, Ccs, Cst, Cem}
-use Rattle.session_states.specs.declared.phases.Phase.{Phase}
-use Rattle.session_states.specs.declared.phases.Phase.the-variants.{Drive, Rest, Hold}
 use Rattle.session_states.specs.Phases.{startPhase}
 use Rattle.session_states.specs.declared.states.State.{State}
 use Rattle.session_states.specs.declared.states.State.the-variants.{Idle, Offered, Unverified, Parameters, Ready, Charging, Stopping, Error}
@@ -27,7 +25,7 @@ use Rattle.session_by_message.specs.declared.Outcome.the-variants.{OutOfStep, H
 use Rattle.session_by_message.specs.Message.{goneOut, outcomeNumber, outcomeOf, inReady, readyOf, crmInReady}
 use Rattle.session.specs.declared.Session.{Session}
 use Rattle.session.specs.Message.{appliedOf, messageOf}
-use Rattle.session_paper_counts.specs.Folds.{foldPhase, foldState, folds}
+use Rattle.session_paper_counts.specs.Folds.{foldState, folds}
 use Rattle.controller.specs.declared.Controller.{Controller}
 use Rattle.controller.specs.declared.Answer.{Answer}
 use Rattle.controller.specs.Start.{freshOf}
@@ -41,7 +39,7 @@ use Rattle.demands.specs.After.{accepts, readInto, after}
 use Rattle.demands.specs.Says.{Says}
 use Rattle.demands.specs.Stops.{Why, GoesOn, AtSilenceLimit, NotWantedBefore, NotWantedCharging, CurrentAbove, PackFull, TimeUp, CellFull, AtClosingLimit, GoesOnAs, LeadsTo}
 use Rattle.demands.specs.GoneOut.{erm}
-use Rattle.demands.specs.Requests.{requestOf, requestIn}
+use Rattle.demands.specs.Requests.{requestIn}
 use Rattle.demands.specs.Statements.{NextCall, hasGone, WhatBeginsACharge, TheLastCmpCounts, NotAboveTheStation}
 use Rattle.demands.specs.Offers.{LastOffer, NoOffer, offerAfter, offerThrough, lastOffer, lastTaken, OfOffer, WithinOffer, BeginsCharge}
 use Rattle.demands.proofs.Comes.{Comes, Left, Took, came, station-is}
@@ -49,6 +47,7 @@ use Rattle.demands.proofs.Outcomes.{Leads, NotTaken, NotInStep, DoesNot
 use Rattle.demands.proofs.GoneOutMoves.{stateAfter, state-is}
 use Rattle.demands.proofs.Stops as stops
 use Rattle.demands.proofs.StepsMade.{codeStep, Behind, behind, its-own, use-is, steps-from-start}
+use Rattle.demands.proofs.Requests.{asks-phase}
 use Rattle.demands.proofs.OfCalls.{charging-code, crm-taken}
 use Rattle.demands.proofs.Offers.{Held, last-held}
 
@@ -87,7 +86,8 @@ module _ (x : Settings) (n : ℕ) where
   ready-enters y most Cem h = absurd (false≢true h)
 
   -- and no other message begins a charge
-  enters : (m : ChargeMessage) (st : State) (o : Outcome) → Leads x n st o → o ≡ outcomeOf x st n m → isCharging st ≡ false
+  enters : (m : ChargeMessage) (st : State) (o : Outcome) → Leads x n st o → o ≡ outcomeOf x st n m
+      → isCharging st ≡ false
       → isCharging (stateAfter st o) ≡ true → Enters st m
   unfolding isCharging stateAfter
   enters m st o NotTaken e f h = absurd (false≢true (sym f ∙ h))
@@ -169,7 +169,8 @@ module _ (x : Settings) (r : Readings) (k : Cells) where
   leads-not AtClosingLimit from to h e = ap isCharging e
 
 module _ (c : Controller) (f : isCharging (c .session .state) ≡ false) where
-  tick-not : (r : Readings) (v : List ℕ) (t : List ℤ) (old : List ℕ) → isCharging (after c (Tick r v t old) .session .state) ≡ false
+  tick-not : (r : Readings) (v : List ℕ) (t : List ℤ) (old : List ℕ)
+      → isCharging (after c (Tick r v t old) .session .state) ≡ false
   tick-not r v t old = either (accepts r v t old) refl
     where
       either : (b : Bool) → accepts r v t old ≡ b → isCharging (after c (Tick r v t old) .session .state) ≡ false
@@ -187,14 +188,9 @@ unfolding offerThrough offerAfter
 through-folds l [] = refl
 through-folds l (x ∷ xs) = through-folds (offerAfter l x) xs
 
-last-made : (ms : List CallMade) (c : Controller) → AfterCalls ms c → lastTaken ms ≡ lastOffer (stepsOf NoController (callsIn ms))
+last-made : (ms : List CallMade) (c : Controller) → AfterCalls ms c
+    → lastTaken ms ≡ lastOffer (stepsOf NoController (callsIn ms))
 last-made ms c a = ap lastOffer (steps-from-start ms (a .kept)) ∙ through-folds NoOffer (stepsOf NoController (callsIn ms))
-
-asks-phase : (p : Phase) → requestOf (foldPhase p) ≡ requestOf p
-unfolding requestOf foldPhase
-asks-phase (Drive request cycle time) = refl
-asks-phase (Rest request cycle time) = refl
-asks-phase (Hold time) = refl
 
 held-folds : (x : Settings) (l : LastOffer) (st : State) → Held x l st → Held x l (foldState st)
 unfolding Held foldState
@@ -207,7 +203,8 @@ held-folds x l (Charging p) h = subst (WithinOffer l) (sym (asks-phase p)) h
 held-folds x l (Stopping k e) h = tt
 held-folds x l Error h = tt
 
-pub held-made : (ms : List CallMade) (c : Controller) → AfterCalls ms c → Held (c .settings) (lastTaken ms) (c .session .state)
+pub held-made : (ms : List CallMade) (c : Controller) → AfterCalls ms c
+    → Held (c .settings) (lastTaken ms) (c .session .state)
 unfolding codeOf folds
 held-made ms c a =
     let b : Behind ms c = behind ms c a in
@@ -219,7 +216,8 @@ pub the-last-cmp-counts : TheLastCmpCounts
 unfolding Held
 the-last-cmp-counts ms c accepted maximum a e = subst (Held (c .settings) (lastTaken ms)) e (held-made ms c a)
 
-within-in : (x : Settings) (l : LastOffer) (st : State) → isCharging st ≡ true → Held x l st → WithinOffer l (requestIn st)
+within-in : (x : Settings) (l : LastOffer) (st : State) → isCharging st ≡ true → Held x l st
+    → WithinOffer l (requestIn st)
 unfolding Held isCharging requestIn
 within-in x l Idle e h = absurd (false≢true e)
 within-in x l Offered e h = absurd (false≢true e)
@@ -241,7 +239,8 @@ never ms c m a h f e =
     ∙ (sym (charging-code (after c (callIn m)))
     ∙ (ap (λ (z : Controller). isCharging (z .session .state)) (sym (use-is c (its-own ms c a) m h)) ∙ e)))
 
-frame-made : (ms : List CallMade) (c : Controller) (id : ℕ) (s : List ℕ) (a : Answer) → AfterCalls ms c → NextCall c (DidReceive id s a)
+frame-made : (ms : List CallMade) (c : Controller) (id : ℕ) (s : List ℕ) (a : Answer) → AfterCalls ms c
+    → NextCall c (DidReceive id s a)
     → Begins c id s a → BeginsCharge (hasGone erm ms) (lastTaken ms) c (Receive id s) (a .controller .session .state)
 unfolding isReady
 frame-made ms c id s a u h b =

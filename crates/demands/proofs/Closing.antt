@@ -38,7 +38,7 @@ use Rattle.session.specs.Session.{begun}
 use Rattle.session.specs.Message.{sessionAfter, appliedOf, messageOf}
 use Rattle.session.specs.Frames.{estBytes, stoppingFrames, framesIn, framesOf}
 use Rattle.session.specs.Tick.{turnedBy, turnIn, sentOf}
-use Rattle.session_paper_counts.specs.Folds.{foldState, folds}
+use Rattle.session_paper_counts.specs.Folds.{folds}
 use Rattle.session_paper_counts.specs.Literal.{grown, counted, literalIn, literalAdvance, literalTick}
 use Rattle.controller.specs.declared.Controller.{Controller}
 use Rattle.controller.specs.declared.Answer.{Answer}
@@ -46,7 +46,6 @@ use Rattle.controller.specs.Start.{freshOf}
 use Rattle.controller.specs.Frame.{frameTo, sessionMoved}
 use Rattle.controller.specs.Tick.{chargeFrames}
 use Rattle.demands.specs.Machine.{Call, Read, Receive, Tick, Write, Box, Using, Seen, paperNext, seenOf, framesSeen}
-use Rattle.demands.specs.InStep.{codeOf, codeBox}
 use Rattle.demands.specs.Calls.{CallMade, DidTick, callIn, KeepsPromise, inHand, callsIn}
 use Rattle.demands.specs.Since.{useThen}
 use Rattle.demands.specs.After.{accepts, readInto, after, noSession, endsWithin}
@@ -58,10 +57,9 @@ use Rattle.demands.specs.Closing.{isClosing}
 use Rattle.demands.specs.Statements.{ClosingEnds, EstEachTick}
 use Rattle.demands.proofs.Tests.{or-left, or-right, same}
 use Rattle.demands.proofs.Comes.{Comes, Left, Took, came}
-use Rattle.demands.proofs.Steps.{kind-folds}
 use Rattle.demands.proofs.Since.{seen-tick}
-use Rattle.demands.proofs.StepsMade.{in-hand-seen, its-own}
-use Rattle.demands.proofs.OfCalls.{accepted-as, session-use}
+use Rattle.demands.proofs.StepsMade.{in-hand-seen, its-own, own-box}
+use Rattle.demands.proofs.OfCalls.{accepted-as, session-use, stopping-folds}
 use Rattle.demands.proofs.OfRuns.{ends-made}
 
 -- ---- what becomes of a session in Stopping or Error: it is over; or it is still there, and has the ticks to go that it
@@ -80,7 +78,8 @@ keeps (outcome.Enter st) = false
 keeps (outcome.Keep st) = isClosing st
 keeps outcome.End = true
 
-message-keeps : (x : Settings) (n : ℕ) (st : State) (m : ChargeMessage) → isClosing st ≡ true → keeps (outcomeOf x st n m) ≡ true
+message-keeps : (x : Settings) (n : ℕ) (st : State) (m : ChargeMessage) → isClosing st ≡ true
+    → keeps (outcomeOf x st n m) ≡ true
 unfolding isClosing keeps outcomeOf inStopping inError
 message-keeps x n Idle m h = absurd (false≢true h)
 message-keeps x n Offered m h = absurd (false≢true h)
@@ -103,7 +102,8 @@ message-keeps x n Error (Ccs b) h = refl
 message-keeps x n Error (Cst b) h = refl
 message-keeps x n Error Cem h = refl
 
-message-closes : (source : ℕ) (s : Session) (o : Outcome) → keeps o ≡ true → isClosing (s .state) ≡ true → Closes 0 s (sessionAfter source s o)
+message-closes : (source : ℕ) (s : Session) (o : Outcome) → keeps o ≡ true → isClosing (s .state) ≡ true
+    → Closes 0 s (sessionAfter source s o)
 unfolding sessionAfter keeps isIdle
 message-closes source s outcome.Refuse k h = Still h (omega arith)
 message-closes source s outcome.OutOfStep k h = Still h (omega arith)
@@ -133,7 +133,8 @@ module _ (x : Settings) (r : Readings) (c : Cells) (s : Session) where
   goes-on (Stopping k e) h l = Still refl (omega (arith, leb-false closingLimit (s .count) l))
   goes-on Error h l = Still refl (omega (arith, leb-false closingLimit (s .count) l))
 
-  either-way : (st : State) → isClosing st ≡ true → (l : Bool) → leb closingLimit (s .count) ≡ l → Next (cond l turn.End (turn.On st))
+  either-way : (st : State) → isClosing st ≡ true → (l : Bool) → leb closingLimit (s .count) ≡ l
+      → Next (cond l turn.End (turn.On st))
   either-way st h true l = ends
   either-way st h false l = goes-on st h l
 
@@ -161,7 +162,8 @@ module _ (c : Controller) (h : isClosing (c .session .state) ≡ true) where
       subst (λ (z : Answer). Closes 0 (c .session) (z .controller .session)) (sym e)
       (message-closes (partsOf id .source) (c .session) _ (message-keeps (c .settings) (c .session .count) (c .session .state) m h) h)
 
-  tick-either : (r : Readings) (v : List ℕ) (t : List ℤ) (b : Bool) → Closes (cond b 1 0) (c .session) (cond b (paperNext c r v t) c .session)
+  tick-either : (r : Readings) (v : List ℕ) (t : List ℤ) (b : Bool)
+      → Closes (cond b 1 0) (c .session) (cond b (paperNext c r v t) c .session)
   unfolding paperNext
   tick-either r v t true = tick-closes (c .settings) r (cellsOf v t) (c .session) h
   tick-either r v t false = Still h (omega arith)
@@ -219,7 +221,8 @@ closing-ends ps c ms a n h l =
     ends-made ps c ms a n (closing-open c h) ∙ closing-ends-by (callsIn ms) c h (omega (arith, l))
 
 -- ---- Stopping sends an EST at each tick
-own-est : (x : Settings) (station : ℕ) (k : Bool) (e : Est) (fs : List Frame) → holds (isOurs EST x station) (estBytes x station k e ∷ fs) ≡ true
+own-est : (x : Settings) (station : ℕ) (k : Bool) (e : Est) (fs : List Frame)
+    → holds (isOurs EST x station) (estBytes x station k e ∷ fs) ≡ true
 unfolding holds isOurs estBytes estFrame
 own-est x station k Awaited fs = or-left _ _ (eq-eqb (identifierOf EST station (x .own)) _ refl)
 own-est x station k (Fixed a b) fs = or-left _ _ (eq-eqb (identifierOf EST station (x .own)) _ refl)
@@ -260,14 +263,6 @@ unfolding after paperNext sentAt chargeFrames
 seen-sends c r v t old a h =
     rw (seen-tick c r v t old .1, a)
     (tick-sends (c .settings) r (cellsOf v t) (besideAt c r v t old) (c .session) (rw a at h))
-
-stopping-folds : (st : State) → isStopping (foldState st) ≡ isStopping st
-unfolding isStopping
-stopping-folds = kind-folds isStopping (λ p. refl)
-
-own-box : (c : Controller) → codeOf c ≡ c → codeBox (Using c) ≡ Using c
-unfolding codeBox
-own-box c e = ap Using e
 
 pub est-each-tick : EstEachTick
 unfolding callIn useThen inHand framesSeen folds

@@ -1,9 +1,8 @@
 -- Which ECRs a tick sends: none but that of the phase that it leads to. So a law of this one is a law of every ECR among
--- the frames of a tick (`ecrs-sent`); and by it none asks more than the last CMP taken offers (specs/Offers.antt).
--- Assumes nothing.
-use Prim.Native.Nat.{ℕ, _+_, _-_, _*_, _/_, _%_, _<_, _≤_}
+-- the frames of a tick. Assumes nothing.
+use Prim.Native.Nat.{ℕ, _+_, _-_, _*_, _/_, _%_, _<_}
 use native.Mathlib.Omega.{arith}
-use mathlib.Core.Path.{_≡_, refl, sym, ap, subst, _∙_}
+use mathlib.Core.Path.{_≡_, refl, sym, ap, _∙_}
 use mathlib.Core.Bool.{Bool, true, false, cond, false≢true}
 use mathlib.Core.List.{List, [], _∷_}
 use borrow.Author.Tests.{eqb-true}
@@ -23,32 +22,23 @@ use Rattle.refusals.specs.Tick.{tickNumber}
 use Rattle.refusals.proofs.Fine.{fine}
 use Rattle.session_states.specs.Limits.{firstEcp}
 use Rattle.session_states.specs.declared.phases.Phase.{Phase}
-use Rattle.session_states.specs.declared.phases.Phase.the-variants.{Drive, Rest, Hold}
 use Rattle.session_states.specs.declared.states.Est.{Est}
 use Rattle.session_states.specs.declared.states.Est.the-variants.{Awaited, Fixed}
 use Rattle.session_states.specs.declared.states.State.{State}
 use Rattle.session_states.specs.declared.states.State.the-variants.{Idle, Offered, Unverified, Parameters, Ready, Charging, Stopping, Error}
 use Rattle.session_by_tick.specs.declared.Turn.{Turn}
 use Rattle.session_by_tick.specs.declared.Turn.the-variants as turn
-use Rattle.session_frames.specs.Layouts.{eimOf, evmOf, ecpOf, ermOf, ecrFrame, ecrOf, ecsOf, esmOf, estFrame, edmOf, eemOf}
+use Rattle.session_frames.specs.Layouts.{eimOf, evmOf, ecpOf, ermOf, ecrOf, ecsOf, esmOf, estFrame, edmOf, eemOf}
 use Rattle.session.specs.declared.Session.{Session}
 use Rattle.session.specs.Frames.{isFifth, each5, parametersFrames, chargingFrames, estBytes, stoppingFrames, framesIn, framesOf}
 use Rattle.session.specs.Tick.{turnedBy, turnIn, sentOf}
-use Rattle.session_paper_counts.specs.Literal.{older, grown, literalIn, literalAdvance, literalTick}
 use Rattle.controller.specs.declared.Controller.{Controller}
 use Rattle.controller.specs.Tick.{tickFrames, chargeFrames, accepted}
-use Rattle.demands.specs.Machine.{Tick, Box, Using, Seen, Gave, paperNext, seenOf, framesSeen}
-use Rattle.demands.specs.InStep.{codeOf, codeBox}
-use Rattle.demands.specs.Calls.{CallMade, DidTick, callIn, KeepsPromise, inHand}
+use Rattle.demands.specs.Machine.{Tick, Using, Gave, paperNext, seenOf, framesSeen}
 use Rattle.demands.specs.FrameKinds.{pfIn, isChargeFrame, only}
-use Rattle.demands.specs.Requests.{requestOf, isEcr}
-use Rattle.demands.specs.Offers.{LastOffer, lastTaken, WithinOffer, AsksWithinOffer, AllAskWithinOffer}
-use Rattle.demands.specs.Statements.{NoRequestAboveTheStation}
+use Rattle.demands.specs.Requests.{EachEcr, isEcr}
 use Rattle.demands.proofs.Sent.{Each, each-if, each-one, each-two, each-cons, each-none}
 use Rattle.demands.proofs.FrameKinds.{pf-sent, Bytes, charge-frames-told}
-use Rattle.demands.proofs.StepsMade.{in-hand-seen, its-own, use-bytes}
-use Rattle.demands.proofs.Offers.{Held, older-asks, tick-held}
-use Rattle.demands.proofs.BeginsCharge.{held-made}
 
 -- ---- of any law `Q` of frames
 module _ (Q : Frame → Type 0) (x : Settings) where
@@ -78,7 +68,8 @@ module _ (Q : Frame → Type 0) (x : Settings) where
     fifth n fs h = each-if IfEcr (isFifth n) fs [] h (each-none IfEcr)
 
     -- the frames of a state
-    in-state : (n : ℕ) (st : State) → ((p : Phase) → st ≡ Charging p → Q (ecrOf x station c p)) → Each IfEcr (framesIn x r c station n st)
+    in-state : (n : ℕ) (st : State) → ((p : Phase) → st ≡ Charging p → Q (ecrOf x station c p))
+        → Each IfEcr (framesIn x r c station n st)
     unfolding framesIn parametersFrames chargingFrames stoppingFrames evmOf ecpOf ermOf ecsOf esmOf edmOf eemOf
     in-state n Idle h = each-none IfEcr
     in-state n Offered h = fifth n _ (each-one IfEcr _ (eim-not true))
@@ -96,7 +87,8 @@ module _ (Q : Frame → Type 0) (x : Settings) where
 
   -- the charge frames of a tick
   turn-ecrs : (r : Readings) (c : Cells) (s : Session) (t : Turn) → s .station < 256 → x .own < 256
-      → ((p : Phase) → turnedBy s t .state ≡ Charging p → Q (ecrOf x (s .station) c p)) → Each IfEcr (framesOf x r c (s .station) t (turnedBy s t))
+      → ((p : Phase) → turnedBy s t .state ≡ Charging p → Q (ecrOf x (s .station) c p))
+      → Each IfEcr (framesOf x r c (s .station) t (turnedBy s t))
   unfolding framesOf turnedBy framesIn
   turn-ecrs r c s (turn.On st) k o h = in-state r c (s .station) k o (s .count) st h
   turn-ecrs r c s (turn.Enter st) k o h = in-state r c (s .station) k o 0 st h
@@ -118,6 +110,11 @@ module _ (Q : Frame → Type 0) (x : Settings) where
       either true e rest i = (i .0, rest (i .1))
       either false e rest i = (ecr-charge f e, rest i)
 
+  as-told : (fs : List Frame) → Each IfEcr fs → EachEcr Q fs
+  unfolding Each EachEcr
+  as-told [] h = tt
+  as-told (f ∷ fs) h = (h .0, as-told fs (h .1))
+
 -- ---- all that a tick sends
 module _ (Q : Frame → Type 0) (c : Controller) (b : Bytes c) (r : Readings) (v : List ℕ) (t : List ℤ) where
   abbrev to : State
@@ -137,57 +134,10 @@ module _ (Q : Frame → Type 0) (c : Controller) (b : Bytes c) (r : Readings) (v
     tick-either l m n room new old true e = tick-ecrs (fine r v t room (eqb-true (tickNumber r v t room) 0 e) .fits)
     tick-either l m n room new old false e = tt
 
-    pub ecrs-sent : (old : List ℕ) → Each (IfEcr Q (c .settings)) (framesSeen (seenOf paperNext (Using c) (Tick r v t old)))
+    pub ecrs-sent : (old : List ℕ) → EachEcr Q (framesSeen (seenOf paperNext (Using c) (Tick r v t old)))
     unfolding seenOf
-    ecrs-sent old = tick-either _ _ _ (length old) _ old (accepted c r v t (length old)) refl
+    ecrs-sent old = as-told Q (c .settings) _ (tick-either _ _ _ (length old) _ old (accepted c r v t (length old)) refl)
 
--- ---- none asks more than the last CMP taken offers
 -- a word is its two bytes
-word-back : (w : ℕ) → w % 256 + w / 256 * 256 ≡ w
+pub word-back : (w : ℕ) → w % 256 + w / 256 * 256 ≡ w
 word-back w = omega arith
-
-module _ (l : LastOffer) (x : Settings) (station : ℕ) where
-  made-within : (v i mode n : ℕ) → 4000 ≤ i + n → (w : WithinOffer l n) → AsksWithinOffer l (ecrFrame x station v i mode)
-  unfolding ecrFrame
-  made-within v i mode n h w =
-      record { offer = w .offer; made = w .made; current = let u = word-back i in rw u (omega (arith, h, w .within)) }
-
-  ecr-within : (c : Cells) (p : Phase) → WithinOffer l (requestOf p) → AsksWithinOffer l (ecrOf x station c p)
-  unfolding ecrOf requestOf
-  ecr-within c (Drive request cycle time) w = made-within 0 (4000 - request .0) 0x02 (request .0) (omega arith) w
-  ecr-within c (Rest request cycle time) w = made-within 0 4000 0x02 (request .0) (omega arith) w
-  ecr-within c (Hold time) w = made-within _ 4000 0x01 0 (omega arith) w
-
-  as-told : (fs : List Frame) → Each (IfEcr (AsksWithinOffer l) x) fs → AllAskWithinOffer l fs
-  unfolding Each AllAskWithinOffer
-  as-told [] h = tt
-  as-told (f ∷ fs) h = (h .0, as-told fs (h .1))
-
--- the phase that a tick leads to is one tick older after it
-advanced : (u : Session) (p : Phase) → u .state ≡ Charging p → literalAdvance u .state ≡ Charging (older p)
-unfolding literalAdvance literalIn grown
-advanced u p e = ap (λ (st : State). literalIn u st .state) e
-
-charging-within : (x : Settings) (l : LastOffer) (u : Session) (p : Phase) → u .state ≡ Charging p → Held x l (literalAdvance u .state)
-    → WithinOffer l (requestOf p)
-unfolding Held
-charging-within x l u p e h =
-    subst (WithinOffer l) (older-asks p) (subst (Held x l) (advanced u p e) h)
-
-own-box : (c : Controller) → codeOf c ≡ c → codeBox (Using c) ≡ Using c
-unfolding codeBox
-own-box c e = ap Using e
-
-pub no-request-above-the-station : NoRequestAboveTheStation
-unfolding callIn inHand framesSeen literalTick
-no-request-above-the-station ms c r v t old new k a h =
-    let m : CallMade = DidTick r v t old new k in
-    let l : LastOffer = lastTaken ms in
-    let e : inHand m ≡ seenOf paperNext (Using c) (Tick r v t old) =
-    in-hand-seen (Using c) m (subst (λ (b : Box). KeepsPromise b m) (sym (own-box c (its-own ms c a))) h) in
-    let held : Held (c .settings) l (literalTick (c .settings) r (cellsOf v t) (c .session) .state) =
-    tick-held (c .settings) r (cellsOf v t) l (c .session) (held-made ms c a) in
-    subst (λ (y : Seen). AllAskWithinOffer l (framesSeen y)) (sym e)
-    (as-told l (c .settings) (c .session .station) _
-    (ecrs-sent (AsksWithinOffer l) c (use-bytes ms c a) r v t
-    (λ p i. ecr-within l (c .settings) (c .session .station) (cellsOf v t) p (charging-within (c .settings) l _ p i held)) old))

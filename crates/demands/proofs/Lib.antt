@@ -47,4 +47,5 @@ pub mod Offers
 pub mod BeginsCharge
 pub mod Closing
 pub mod EcrSent
+pub mod OfferSent
 pub mod Statements

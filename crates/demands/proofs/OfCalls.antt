@@ -57,7 +57,7 @@ charging-folds : (st : State) → isCharging (foldState st) ≡ isCharging st
 unfolding isCharging
 charging-folds = kind-folds isCharging (λ p. refl)
 
-stopping-folds : (st : State) → isStopping (foldState st) ≡ isStopping st
+pub stopping-folds : (st : State) → isStopping (foldState st) ≡ isStopping st
 unfolding isStopping
 stopping-folds = kind-folds isStopping (λ p. refl)
 

@@ -12,7 +12,7 @@ use Rattle.charge_messages.specs.declared.ChargeMessage.{ChargeMessage}
 use Rattle.charge_messages.specs.declared.ChargeMessage.the-variants.{Cim, Cvm, Cmp, Crm, Ccs, Cst, Cem}
 use Rattle.charge_messages.specs.declared.Offer.{Offer}
 use Rattle.session_states.specs.declared.phases.Phase.{Phase}
-use Rattle.session_states.specs.declared.phases.Phase.the-variants.{Drive, Rest, Hold}
+use Rattle.session_states.specs.declared.phases.Phase.the-variants.{Drive, Hold}
 use Rattle.session_states.specs.Phases.{tooSmall, startPhase}
 use Rattle.session_states.specs.declared.states.State.{State}
 use Rattle.session_states.specs.declared.states.State.the-variants.{Parameters, Charging}
@@ -29,7 +29,7 @@ use Rattle.demands.specs.After.{after, afterAll, noSession, endsWithin}
 use Rattle.demands.specs.Silent.{feeds, Unheeded, Silence}
 use Rattle.demands.specs.SilentIn.{UnheededIn, SilentIn}
 use Rattle.demands.specs.Reach.{chargingWith}
-use Rattle.demands.specs.Requests.{requestOf, requestIn, AllAskWithin}
+use Rattle.demands.specs.Requests.{requestIn, AllAskWithin}
 use Rattle.demands.specs.Told.{isOver, endsIn}
 use Rattle.demands.specs.Statements.{NextCalls, Undisturbed, Unmoved, Within801, SilentStation, CimHoldsNothing, CrmHoldsNothing, ReachesCharging, FromCimToCharging, NoSooner, Demand1, Demand2, NeverAboveTheMaximum, NoRequestAbove}
 use Rattle.demands.proofs.Steps.{kind-folds}
@@ -42,6 +42,7 @@ use Rattle.demands.proofs.SilentSlips as slips
 use Rattle.demands.proofs.Reach as reach
 use Rattle.demands.proofs.ReachLeast as least
 use Rattle.demands.proofs.Requests as requests
+use Rattle.demands.proofs.Requests.{asks-phase}
 use Rattle.demands.proofs.RequestsSent as sent
 use Rattle.demands.proofs.Demand1 as one
 use Rattle.demands.proofs.Calls as two
@@ -196,12 +197,6 @@ no-sooner ps c ms a h i e =
     ∙ (ap (λ (z : Controller). isCharging (z .session .state)) (sym (use-all ms c c (its-own ps c a) h)) ∙ e))
 
 -- ---- never above the maximum
-asks-phase : (p : Phase) → requestOf (foldPhase p) ≡ requestOf p
-unfolding requestOf foldPhase
-asks-phase (Drive request cycle time) = refl
-asks-phase (Rest request cycle time) = refl
-asks-phase (Hold time) = refl
-
 asks-fold : (st : State) → requestIn (foldState st) ≡ requestIn st
 unfolding requestIn
 asks-fold = kind-folds requestIn asks-phase

@@ -33,7 +33,7 @@ use Rattle.charge_messages.specs.declared.Content.the-variants.{Allowed}
 use Rattle.charge_messages.specs.Content.{contentOf}
 use Rattle.session_states.specs.Limits.{firstEcp}
 use Rattle.session_states.specs.declared.phases.Phase.{Phase}
-use Rattle.session_states.specs.declared.phases.Phase.the-variants.{Drive, Rest, Hold}
+use Rattle.session_states.specs.declared.phases.Phase.the-variants.{Drive, Hold}
 use Rattle.session_states.specs.declared.phases.PhaseAfter.{PhaseAfter}
 use Rattle.session_states.specs.declared.phases.PhaseAfter.the-variants as phase
 use Rattle.session_states.specs.Phases.{tooSmall, startPhase, phaseAfter}
@@ -44,11 +44,10 @@ use Rattle.session_by_message.specs.declared.Outcome.{Outcome}
 use Rattle.session_by_message.specs.declared.Outcome.the-variants.{Refuse, OutOfStep, Open, Heard, Enter, Keep, End}
 use Rattle.session_by_message.specs.Offer.{acceptedOf, stationMaximum}
 use Rattle.session_by_message.specs.Message.{goneOut, outcomeNumber, outcomeOf, inIdle, inOffered, inUnverified, inParameters, inReady, readyOf, crmInReady, inCharging, inStopping, inError}
-use Rattle.session_by_tick.specs.Turns.{cellFull, turnOf}
+use Rattle.session_by_tick.specs.Turns.{cellFull}
 use Rattle.session.specs.declared.Session.{Session}
 use Rattle.session.specs.Message.{appliedOf, messageOf}
-use Rattle.session.specs.Tick.{turnedBy, turnIn}
-use Rattle.session_paper_counts.specs.Literal.{older, grown, counted, literalIn, literalAdvance, literalTick}
+use Rattle.session_paper_counts.specs.Literal.{literalTick}
 use Rattle.controller.specs.declared.Controller.{Controller}
 use Rattle.controller.specs.declared.Answer.{Answer}
 use Rattle.controller.specs.Start.{freshOf, startWith, startOf}
@@ -66,7 +65,7 @@ use Rattle.demands.specs.Offers as offers
 use Rattle.demands.proofs.View.{pf-is}
 use Rattle.demands.proofs.Comes.{Comes, Left, Took, came}
 use Rattle.demands.proofs.Outcomes.{Leads, NotTaken, NotInStep, DoesNothing, OpensOne, ToUnverified, ToParameters, ToParametersLater, ToReady, ToReadyAgain, ToCharging, ToStopping, MarksIt, EndsIt, outcome-leads}
-use Rattle.demands.proofs.Requests.{turnAsks, turn-asks, turned-is}
+use Rattle.demands.proofs.Requests.{tick-asks}
 use Rattle.demands.proofs.Reasons.{tick-why}
 use Rattle.demands.proofs.GoneOutMoves.{stateAfter, state-is}
 
@@ -121,7 +120,8 @@ module _ (x : Settings) (n : ℕ) where
   parameters-cmp (Cst b) h = absurd (false≢true h)
   parameters-cmp Cem h = absurd (false≢true h)
 
-  ready-cmp : (y : Bool) (most : TenthAmps) (m : ChargeMessage) → entersReady (inReady x y most n m) ≡ true → isCmp (chargeOf m) ≡ true
+  ready-cmp : (y : Bool) (most : TenthAmps) (m : ChargeMessage) → entersReady (inReady x y most n m) ≡ true
+      → isCmp (chargeOf m) ≡ true
   unfolding inReady crmInReady entersReady isReady isCmp
   ready-cmp y most Cim h = absurd (false≢true h)
   ready-cmp y most (Cvm b) h = absurd (false≢true h)
@@ -136,7 +136,8 @@ module _ (x : Settings) (n : ℕ) where
 
   module _ (l : LastOffer) where
     -- one that is no CMP
-    other-held : (m : ChargeMessage) → isCmp (chargeOf m) ≡ false → (st : State) (o : Outcome) → Leads x n st o → o ≡ outcomeOf x st n m
+    other-held : (m : ChargeMessage) → isCmp (chargeOf m) ≡ false → (st : State) (o : Outcome) → Leads x n st o
+        → o ≡ outcomeOf x st n m
         → Held x l st → Held x l (stateAfter st o)
     unfolding Held stateAfter outcomeOf entersReady isReady
     other-held m f st o NotTaken e h = h
@@ -198,32 +199,7 @@ module _ (x : Settings) (n : ℕ) where
     message-held Cem s e st h = other-held Cem refl st _ (outcome-leads x n st Cem) refl h
 
 -- ---- a tick asks no more than was asked
-pub older-asks : (p : Phase) → requestOf (older p) ≡ requestOf p
-unfolding older requestOf
-older-asks (Drive request cycle time) = refl
-older-asks (Rest request cycle time) = refl
-older-asks (Hold time) = refl
-
-counts-ask : (s : Session) (st : State) → s .state ≡ st → requestIn (literalIn s st .state) ≡ requestIn st
-unfolding literalIn grown counted requestIn
-counts-ask s Idle h = ap requestIn h
-counts-ask s Offered h = refl
-counts-ask s Unverified h = refl
-counts-ask s Parameters h = refl
-counts-ask s (Ready y maximum) h = refl
-counts-ask s (Charging p) h = older-asks p
-counts-ask s (Stopping k e) h = refl
-counts-ask s Error h = refl
-
 module _ (x : Settings) (r : Readings) (c : Cells) where
-  tick-asks : (s : Session) → requestIn (literalTick x r c s .state) ≤ requestIn (s .state)
-  unfolding literalTick literalAdvance turnIn
-  tick-asks s =
-      let t = turnOf x r c (s .state) (s .count) (s .silence) in
-      let e : requestIn (literalIn (turnedBy s t) (turnedBy s t .state) .state) ≡ turnAsks t =
-      counts-ask (turnedBy s t) (turnedBy s t .state) refl ∙ turned-is x r c s t in
-      rw e (turn-asks x r c (s .count) (s .silence) (s .state))
-
   module _ (l : LastOffer) where
     charges-held : (p : Phase) (q : PhaseAfter) (to : State) → ChargesAs x r c q to → requestIn to ≤ requestOf p
         → Held x l (Charging p) → Held x l to
@@ -244,7 +220,8 @@ module _ (x : Settings) (r : Readings) (c : Cells) where
     on-held (Stopping k f) to e a h = subst (Held x l) (sym e) tt
     on-held Error to e a h = subst (Held x l) (sym e) tt
 
-    leads-held : (w : Why) (from to : State) → LeadsTo x r c from w to → requestIn to ≤ requestIn from → Held x l from → Held x l to
+    leads-held : (w : Why) (from to : State) → LeadsTo x r c from w to → requestIn to ≤ requestIn from → Held x l from
+        → Held x l to
     unfolding LeadsTo Held
     leads-held GoesOn from to e a h = on-held from to e a h
     leads-held AtSilenceLimit from to e a h = subst (Held x l) (sym e) tt
@@ -257,7 +234,7 @@ module _ (x : Settings) (r : Readings) (c : Cells) where
     leads-held AtClosingLimit from to e a h = subst (Held x l) (sym e) tt
 
     pub tick-held : (s : Session) → Held x l (s .state) → Held x l (literalTick x r c s .state)
-    tick-held s h = leads-held (whyOf x r c s) (s .state) (literalTick x r c s .state) (tick-why x r c s) (tick-asks s) h
+    tick-held s h = leads-held (whyOf x r c s) (s .state) (literalTick x r c s .state) (tick-why x r c s) (tick-asks x r c s) h
 
 -- ---- any call
 unfoldable HeldIn : LastOffer → Box → Type 0
@@ -276,7 +253,8 @@ left-untaken (recognized.As (message.Query q)) n f = refl
 left-untaken (recognized.Refused k) n f = refl
 
 module _ (l : LastOffer) where
-  frame-held : (c : Controller) (id : ℕ) (s : List ℕ) (a : Answer) → Comes c id s a → Held (c .settings) l (c .session .state)
+  frame-held : (c : Controller) (id : ℕ) (s : List ℕ) (a : Answer) → Comes c id s a
+      → Held (c .settings) l (c .session .state)
       → Held (a .controller .settings)
       (cond (isOneOf isCmp (recognizedOf (partsOf id .pf)) && eqb (a .number) 0) (offerOf (contentOf charge.Cmp s)) l)
       (a .controller .session .state)
@@ -317,7 +295,8 @@ module _ (l : LastOffer) where
   call-held (Using c) (Write old) h = h
 
 -- ---- any run
-run-held : (l : LastOffer) (b : Box) (ks : List Call) → HeldIn l b → HeldIn (offerThrough l (stepsOf b ks)) (boxAt paperNext b ks)
+run-held : (l : LastOffer) (b : Box) (ks : List Call) → HeldIn l b
+    → HeldIn (offerThrough l (stepsOf b ks)) (boxAt paperNext b ks)
 unfolding offerThrough stepsOf boxAt
 run-held l b [] h = h
 run-held l b (k ∷ ks) h = run-held (offerAfter l (stepAt l b k)) (boxAfter paperNext b k) ks (call-held l b k h)

@@ -36,6 +36,7 @@ use Rattle.session_by_tick.specs.Turns.{cellFull, packFull, currentAbove, stopO
 use Rattle.session.specs.declared.Session.{Session}
 use Rattle.session.specs.Message.{sessionAfter, appliedOf, messageOf}
 use Rattle.session.specs.Tick.{turnedBy, turnIn}
+use Rattle.session_paper_counts.specs.Folds.{foldPhase}
 use Rattle.session_paper_counts.specs.Literal.{older, grown, counted, literalIn, literalAdvance, literalTick}
 use Rattle.controller.specs.declared.Controller.{Controller}
 use Rattle.controller.specs.declared.Answer.{Answer}
@@ -157,6 +158,19 @@ fewer : (m : ℕ) (t : Bool) (a b : Turn) → turnAsks a ≤ m → turnAsks b �
 fewer m true a b h k = h
 fewer m false a b h k = k
 
+-- a phase asks the same with its time folded, and one tick older
+pub asks-phase : (p : Phase) → requestOf (foldPhase p) ≡ requestOf p
+unfolding requestOf foldPhase
+asks-phase (Drive request cycle time) = refl
+asks-phase (Rest request cycle time) = refl
+asks-phase (Hold time) = refl
+
+pub older-asks : (p : Phase) → requestOf (older p) ≡ requestOf p
+unfolding older requestOf
+older-asks (Drive request cycle time) = refl
+older-asks (Rest request cycle time) = refl
+older-asks (Hold time) = refl
+
 module _ (x : Settings) (r : Readings) (c : Cells) where
   phase-asks : (m : ℕ) (t : PhaseAfter) → phaseAsks t ≤ m → turnAsks (phaseOn x r c t) ≤ m
   unfolding phaseAsks turnAsks phaseOn stopOf requestIn
@@ -191,12 +205,6 @@ module _ (x : Settings) (r : Readings) (c : Cells) where
   turned-is s turn.Farewell = refl
   turned-is s turn.End = refl
 
-  older-asks : (p : Phase) → requestOf (older p) ≡ requestOf p
-  unfolding older requestOf
-  older-asks (Drive request cycle time) = refl
-  older-asks (Rest request cycle time) = refl
-  older-asks (Hold time) = refl
-
   counts-ask : (s : Session) (st : State) → s .state ≡ st → requestIn (literalIn s st .state) ≡ requestIn st
   unfolding literalIn grown counted requestIn
   counts-ask s Idle h = ap requestIn h
@@ -208,7 +216,7 @@ module _ (x : Settings) (r : Readings) (c : Cells) where
   counts-ask s (Stopping k e) h = refl
   counts-ask s Error h = refl
 
-  tick-asks : (s : Session) → requestIn (literalTick x r c s .state) ≤ requestIn (s .state)
+  pub tick-asks : (s : Session) → requestIn (literalTick x r c s .state) ≤ requestIn (s .state)
   unfolding literalTick literalAdvance turnIn
   tick-asks s =
       let t = turnOf x r c (s .state) (s .count) (s .silence) in

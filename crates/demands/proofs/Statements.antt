@@ -7,7 +7,7 @@ use Rattle.demands.proofs.RunsMade as made
 use Rattle.demands.proofs.Promised as promised
 use Rattle.demands.proofs.Numbers as table
 use Rattle.demands.proofs.BeginsCharge as begins
-use Rattle.demands.proofs.EcrSent as ecr
+use Rattle.demands.proofs.OfferSent as offers
 use Rattle.demands.proofs.Closing as closing
 use Rattle.demands.proofs.WorkedRows as rows
 use Rattle.demands.proofs.PaperNumbers as numbers
@@ -142,7 +142,7 @@ pub no-request-above : NoRequestAbove
 no-request-above = runs.no-request-above
 
 pub no-request-above-the-station : NoRequestAboveTheStation
-no-request-above-the-station = ecr.no-request-above-the-station
+no-request-above-the-station = offers.no-request-above-the-station
 
 pub the-worked-rows : TheWorkedRows
 the-worked-rows = rows.worked-rows

@@ -81,7 +81,7 @@ unfolding codeBox
 steps-from-start ms h = steps-made NoController ms h
 
 -- from a controller in use
-own-box : (c : Controller) → codeOf c ≡ c → codeBox (Using c) ≡ Using c
+pub own-box : (c : Controller) → codeOf c ≡ c → codeBox (Using c) ≡ Using c
 unfolding codeBox
 own-box c e = ap Using e
 

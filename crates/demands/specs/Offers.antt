@@ -27,7 +27,7 @@ use Rattle.demands.specs.Calls.{CallMade}
 use Rattle.demands.specs.Steps.{Step, stepsMade}
 use Rattle.demands.specs.Says.{Says}
 use Rattle.demands.specs.GoneOut.{isCmp, takes}
-use Rattle.demands.specs.Requests.{isEcr, currentWord}
+use Rattle.demands.specs.Requests.{EachEcr, currentWord}
 
 -- ---- the last CMP taken
 -- none was taken yet; or the last made this offer
@@ -93,9 +93,8 @@ pub record AsksWithinOffer (last : LastOffer) (f : Frame) : Type 0 where
   pub current : 4000 ≤ currentWord f + stationMaximum offer .0
 
 -- and so of each ECR among the frames
-unfoldable pub AllAskWithinOffer : LastOffer → List Frame → Type 0
-AllAskWithinOffer last [] = Unit {0}
-AllAskWithinOffer last (f ∷ fs) = (isEcr f ≡ true → AsksWithinOffer last f) × AllAskWithinOffer last fs
+abbrev pub AllAskWithinOffer : LastOffer → List Frame → Type 0
+AllAskWithinOffer last fs = EachEcr (AsksWithinOffer last) fs
 
 -- ---- what begins a charge: a CRM AA of the session's station, in Ready, an ERM AA of ours having gone out since the
 -- last CMP taken; that CMP's offer is answered yes; and the charge begins with the smaller of the maximum current and

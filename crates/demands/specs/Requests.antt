@@ -50,7 +50,10 @@ pub record AsksWithin (x : Settings) (f : Frame) : Type 0 where
   pub current : 4000 ≤ currentWord f + x .limits .current .0
   pub voltage : voltageWord f ≤ x .limits .pack .0
 
--- and so of each ECR among the frames
-unfoldable pub AllAskWithin : Settings → List Frame → Type 0
-AllAskWithin x [] = Unit {0}
-AllAskWithin x (f ∷ fs) = (isEcr f ≡ true → AsksWithin x f) × AllAskWithin x fs
+-- a law of each ECR among the frames
+unfoldable pub EachEcr : (Frame → Type 0) → List Frame → Type 0
+EachEcr Q [] = Unit {0}
+EachEcr Q (f ∷ fs) = (isEcr f ≡ true → Q f) × EachEcr Q fs
+
+abbrev pub AllAskWithin : Settings → List Frame → Type 0
+AllAskWithin x fs = EachEcr (AsksWithin x) fs
