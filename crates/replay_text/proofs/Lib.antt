@@ -1,0 +1,4 @@
+pub mod Walks
+pub mod Values
+pub mod Pairs
+pub mod Held
