@@ -1,5 +1,6 @@
 -- The text as it is held: a list of characters, 65,536 of them, each its number (docs/REPLAY.md, "Input"). A place is
 -- counted from 0.
+use Prim.Native.Char.{code}
 use Prim.Native.Nat.{ℕ, _+_}
 use mathlib.Core.Bool.{Bool, cond, not}
 use mathlib.Core.List.{List, [], _∷_, _++_}
@@ -8,7 +9,7 @@ use lib.ListN.{length, getD, drop}
 
 -- the character that ends a line
 abbrev pub newline : ℕ
-newline = 10
+newline = code "\n"
 
 -- the character at a place; past the text, a newline
 abbrev pub byteAt : List ℕ → ℕ → ℕ

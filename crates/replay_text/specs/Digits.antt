@@ -1,4 +1,5 @@
 -- Digits, in decimal or in hex, of either case (docs/REPLAY.md, "Input").
+use Prim.Native.Char.{Char, code}
 use Prim.Native.Nat.{ℕ, _+_, _-_, _*_}
 use mathlib.Core.Bool.{Bool, cond, _&&_}
 use mathlib.Core.List.{List, [], _∷_}
@@ -7,11 +8,15 @@ use lib.ListN.{length, drop}
 use Rattle.replay_text.specs.declared.digits.Digits.{Digits}
 use Rattle.replay_text.specs.Chars.{leading}
 
+-- from one character to another, both included
+abbrev pub between : Char → Char → ℕ → Bool
+between first last b = leb (code first) b && leb b (code last)
+
 -- the value of a digit, 0 to 9, a to f or A to F; 255 where it is none
 unfoldable pub digitOf : ℕ → ℕ
 digitOf b =
-    cond (leb 48 b && leb b 57) (b - 48)
-    (cond (leb 97 b && leb b 102) (b - 97 + 10) (cond (leb 65 b && leb b 70) (b - 65 + 10) 255))
+    cond (between "0" "9" b) (b - code "0")
+    (cond (between "a" "f" b) (b - code "a" + 10) (cond (between "A" "F" b) (b - code "A" + 10) 255))
 
 -- a digit of a base
 abbrev pub isDigit : ℕ → ℕ → Bool

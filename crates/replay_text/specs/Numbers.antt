@@ -1,4 +1,5 @@
 -- A decimal number is digits, with a sign before them or none (docs/REPLAY.md, "Input").
+use Prim.Native.Char.{code}
 use Prim.Native.Nat.{ℕ, min}
 use mathlib.Core.Bool.{Bool, true, false, cond, not, _&&_, _||_}
 use mathlib.Core.List.{List}
@@ -16,10 +17,10 @@ use Rattle.replay_text.specs.Digits.{digitsAt}
 
 -- the signs, `-` and `+`
 abbrev pub isMinus : ℕ → Bool
-isMinus b = eqb b 45
+isMinus b = eqb b (code "-")
 
 abbrev pub isSign : ℕ → Bool
-isSign b = isMinus b || eqb b 43
+isSign b = isMinus b || eqb b (code "+")
 
 -- the place past the sign of a word, where it has one
 unfoldable pub pastSign : List ℕ → ℕ → ℕ

@@ -1,4 +1,5 @@
 -- Words are separated by spaces or tabs, and a carriage return counts as one (docs/REPLAY.md, "Input").
+use Prim.Native.Char.{code}
 use Prim.Native.Nat.{ℕ}
 use mathlib.Core.Bool.{Bool, not, _&&_, _||_}
 use mathlib.Core.List.{List, [], _∷_}
@@ -8,7 +9,7 @@ use Rattle.replay_text.specs.Chars.{newline, byteAt, nextPlace, pastAll}
 
 -- a space, a tab or a carriage return
 unfoldable pub isGap : ℕ → Bool
-isGap b = eqb b 32 || (eqb b 9 || eqb b 13)
+isGap b = eqb b (code " ") || (eqb b (code "\t") || eqb b (code "\r"))
 
 -- a word goes on over any other character of the line
 unfoldable pub inWord : ℕ → Bool
