@@ -43,6 +43,11 @@ module _ (text : List ℕ) (at : ℕ) where
   pub no-digit : 16 ≤ digitOf (byteAt text at) → digitsFrom 16 text at ≡ []
   no-digit h = nowhere (ltb at (length text)) refl h
 
+-- and no bytes
+pub no-bytes : (text : List ℕ) (at : ℕ) → 16 ≤ digitOf (byteAt text at) → bytesIn text at ≡ []
+unfolding bytesIn pairsOf
+no-bytes text at h = rw (no-digit text at h)
+
 -- the digits to come, at a place with n bytes read
 abbrev pub left : List ℕ → ℕ → ℕ → List ℕ
 left text n at = take (mostHex - 2 * n) (digitsFrom 16 text at)

@@ -1,25 +1,17 @@
 -- What digits come to. Assumes nothing.
-use Prim.Native.Nat.{ℕ, suc, _+_, _*_, _≤_, _<_}
+use Prim.Native.Nat.{ℕ, suc, _+_, _*_, _^_, _≤_, _<_}
 use mathlib.Core.Path.{_≡_, refl, sym, _∙_, ap}
 use mathlib.Core.List.{List, [], _∷_}
 use mathlib.Core.Bool.{Bool, true, false, cond}
-use native.Mathlib.Nat.{le-refl, mul-le-mul}
+use native.Mathlib.Nat.{le-refl, mul-le-mul, mul-le-mul-right, pow-zero, pow-suc, pow-le-pow-right}
 use native.Mathlib.Omega.{arith}
 use borrow.Author.Tests.{lt-ltb, le-ltb, ltb-true, ltb-false}
 use lib.Dec.{ltb}
 use lib.ListN.{length, getD, drop}
 use Rattle.replay_text.specs.declared.digits.Digits.{Digits}
 use Rattle.replay_text.specs.Chars.{leading}
-use Rattle.replay_text.specs.Digits.{
-  digitOf,
-  isDigit,
-  digitsFrom,
-  plainAfter,
-  cappedAfter,
-  withDigit,
-  tooMuch,
-  digitsAfter,
-}
+use Rattle.replay_text.specs.Digits.{digitOf, isDigit, digitsFrom, plainAfter, cappedAfter, withDigit, tooMuch}
+use Rattle.replay_text.specs.Digits.{digitsAfter, digitsAt}
 use Rattle.replay_text.proofs.Walks.{leading-more, leading-none, leading-past}
 
 -- the same digits, known by other names for their parts
@@ -83,3 +75,49 @@ module _ (base : ℕ) (b : 1 ≤ base) where
   capped-much value [] h = h
   capped-much value (x ∷ l) h =
       much value x l (ltb value tooMuch) refl (capped-much (value * base + digitOf x) l h)
+
+-- one digit more makes a value at most a base's times as much
+with-below : (base value x : ℕ) → x < base → withDigit base value x + 1 ≤ (value + 1) * base
+unfolding withDigit
+with-below base value x h =
+    elim (ltb value tooMuch) as (λ (p : Bool). cond p (value * base + x) value + 1 ≤ (value + 1) * base) [
+      | true ↦ omega arith
+      | false ↦ times base (omega arith) (value + 1)
+    ]
+
+swapped : (v b p : ℕ) → (v + 1) * b * p ≡ (v + 1) * (p * b)
+swapped v b p = omega arith
+
+-- so many digits come to less than a base's power
+module _ (base : ℕ) where
+  below-one : (value x : ℕ) (l : List ℕ) → x < base
+      → cappedAfter base (withDigit base value x) l < (withDigit base value x + 1) * base ^ length l
+      → cappedAfter base (withDigit base value x) l < (value + 1) * base ^ suc (length l)
+  below-one value x l h i =
+      let m = mul-le-mul-right (base ^ length l) (with-below base value x h) in
+      rw pow-suc (omega (arith, swapped value base (base ^ length l)))
+
+  below-at : (value b : ℕ) (l : List ℕ)
+      → ((v : ℕ) → cappedAfter base v (leading (isDigit base) l) < (v + 1) * base ^ length (leading (isDigit base) l))
+      → (p : Bool) → isDigit base b ≡ p
+      → cappedAfter base value (cond p (b ∷ leading (isDigit base) l) [])
+      < (value + 1) * base ^ length (cond p (b ∷ leading (isDigit base) l) [])
+  unfolding cappedAfter
+  below-at value b l i true e =
+      below-one value (digitOf b) (leading (isDigit base) l) (ltb-true (digitOf b) base e)
+      (i (withDigit base value (digitOf b)))
+  below-at value b l i false e = rw pow-zero (omega arith)
+
+  capped-below : (value : ℕ) (l : List ℕ)
+      → cappedAfter base value (leading (isDigit base) l) < (value + 1) * base ^ length (leading (isDigit base) l)
+  unfolding leading cappedAfter
+  capped-below value [] = rw pow-zero (omega arith)
+  capped-below value (b ∷ l) = below-at value b l (λ v. capped-below v l) (isDigit base b) refl
+
+  pub digits-below : 1 ≤ base → (text : List ℕ) (at k : ℕ) → digitsAt base text at .count ≤ k
+      → digitsAt base text at .value < base ^ k
+  unfolding digitsAt
+  digits-below b text at k h =
+      let l = digitsFrom base text at in
+      let m : base ^ length l ≤ base ^ k = pow-le-pow-right b (omega arith) in
+      omega (arith, capped-below 0 (drop at text))
