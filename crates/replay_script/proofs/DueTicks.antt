@@ -1,12 +1,11 @@
 -- What is due by a log's clock, by cases. Assumes nothing.
 use Prim.Native.Nat.{ℕ, _+_, _≤_, _<_}
-use mathlib.Core.Path.{_≡_, refl, sym, _∙_}
+use mathlib.Core.Path.{_≡_, sym, _∙_}
 use mathlib.Core.Bool.{true, cond}
 use native.Mathlib.Nat.{add-zero}
 use borrow.Author.Tests.{lt-ltb, le-ltb}
 use lib.Dec.{ltb}
 use Rattle.replay_script.specs.declared.clock.Clock.{Clock}
-use Rattle.replay_script.specs.declared.clock.Due.{Due}
 use Rattle.replay_script.specs.declared.clock.Due.the-variants.{Ticks, TooMany}
 use Rattle.replay_script.specs.Clocks.{ticksDue, dayTicks, zeroAt, afterTicks, dueOf}
 use Rattle.replay_script.proofs.Tests.{picked}

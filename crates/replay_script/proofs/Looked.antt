@@ -2,7 +2,7 @@
 use Prim.Native.Nat.{ℕ}
 use mathlib.Core.Path.{_≡_, refl}
 use mathlib.Core.List.{List}
-use mathlib.Core.Bool.{Bool, true, false, cond, not, _||_}
+use mathlib.Core.Bool.{true, false}
 use lib.IntN.{ℤ}
 use Rattle.replay_text.specs.Words.{pastGaps}
 use Rattle.replay_script.specs.declared.Asked.{Asked}

@@ -1,14 +1,12 @@
 -- The ten numbers of a line `readings`: where all can be read, none is too large for its field. Assumes nothing.
 use Prim.Native.Nat.{ℕ, _≤_}
-use mathlib.Core.Path.{_≡_, refl, sym, _∙_}
+use mathlib.Core.Path.{_≡_, sym, _∙_}
 use mathlib.Core.List.{List}
 use mathlib.Core.Bool.{Bool, true, false, cond, _&&_}
 use borrow.Author.Tests.{le-leb}
 use lib.Dec.{leb}
-use lib.IntN.{ℤ}
 use Rattle.replay_text.proofs.Most.{up-to-most, only-most}
 use Rattle.readings.specs.declared.Readings as readings
-use Rattle.replay_script.specs.declared.Asked.{Asked}
 use Rattle.replay_script.specs.declared.Asked.the-variants.{Readings, Unreadable}
 use Rattle.replay_script.specs.Ticks.{Ten, allGood, tenIn, readingsOf, readingsIn}
 use Rattle.replay_script.proofs.Tests.{and-left, and-right, picked}
@@ -23,7 +21,8 @@ module _ (a b c d e : Bool) (h : (a && b && c && d && e) ≡ true) where
       let p = and-left (a && b && c && d) e h in
       let q = and-left (a && b && c) d p in
       let r = and-left (a && b) c q in
-      (and-left a b r, and-right a b r, and-right (a && b) c q, and-right (a && b && c) d p, and-right (a && b && c && d) e h)
+      let s = and-right (a && b && c && d) e h in
+      (and-left a b r, and-right a b r, and-right (a && b) c q, and-right (a && b && c) d p, s)
 
 abbrev firsts : Ten → Bool
 firsts x = x .one .good && x .two .good && x .soc .good && x .current .good && x .pack .good
@@ -99,8 +98,10 @@ module _ (text : List ℕ) (past : ℕ) (x : Ten) (is : x ≡ tenIn text past) w
       ≡ readingsIn text past
   unfolding readingsOf
   ten-read g one two soc pack capacity af lf aw lw e1 e2 e3 e4 e5 e6 e7 e8 e9 =
-      let f = five (x .one .good) (x .two .good) (x .soc .good) (x .current .good) (x .pack .good) (and-left (firsts x) (lasts x) g) in
-      let s = five (x .capacity .good) (x .af .good) (x .lf .good) (x .aw .good) (x .lw .good) (and-right (firsts x) (lasts x) g) in
+      let m = and-left (firsts x) (lasts x) g in
+      let n = and-right (firsts x) (lasts x) g in
+      let f = five (x .one .good) (x .two .good) (x .soc .good) (x .current .good) (x .pack .good) m in
+      let s = five (x .capacity .good) (x .af .good) (x .lf .good) (x .aw .good) (x .lw .good) n in
       rw (
         uncut 255 (x .one .value) e1 (most-one (f .0)),
         uncut 255 (x .two .value) e2 (most-two (f .1)),

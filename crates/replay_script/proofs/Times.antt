@@ -2,10 +2,6 @@
 use Prim.Native.Nat.{ℕ, _≤_, _<_, _^_}
 use mathlib.Core.Path.{_≡_}
 use mathlib.Core.List.{List}
-use mathlib.Core.Bool.{true, _&&_}
-use native.Mathlib.Omega.{arith}
-use borrow.Author.Tests.{leb-true, eqb-true}
-use lib.Dec.{leb, eqb}
 use Rattle.replay_text.specs.declared.digits.Digits.{Digits}
 use Rattle.replay_text.specs.Digits.{digitsAt}
 use Rattle.replay_text.proofs.Values.{digits-below}

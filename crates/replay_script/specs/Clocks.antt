@@ -1,5 +1,5 @@
--- The clock of a candump log (docs/REPLAY.md, "Input"): SECONDS has 1 to 12 digits, MICROS six; the first such line of a
--- run sets time zero; before a later one the ticks that are due by then are run.
+-- The clock of a candump log (docs/REPLAY.md, "Input"): SECONDS has 1 to 12 digits, MICROS six; the first such line of
+-- a run sets time zero; before a later one the ticks that are due by then are run.
 use Prim.Native.Char.{code}
 use Prim.Native.Nat.{ℕ, _+_, _*_, _-_, _/_}
 use mathlib.Core.Bool.{Bool, true, false, cond, _&&_}

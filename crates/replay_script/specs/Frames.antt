@@ -6,7 +6,6 @@ use mathlib.Core.Bool.{cond, _&&_}
 use mathlib.Core.List.{List}
 use lib.Dec.{leb, eqb}
 use Rattle.replay_text.specs.declared.digits.Digits.{Digits}
-use Rattle.replay_text.specs.declared.words.Word.{Word}
 use Rattle.replay_text.specs.declared.hex.Hex.{Hex}
 use Rattle.replay_text.specs.declared.hex.Hex.the-variants as hex
 use Rattle.replay_text.specs.Chars.{byteAt, nextPlace, laidFirst}

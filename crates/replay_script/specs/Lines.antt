@@ -2,7 +2,7 @@
 use Prim.Native.Char.{code}
 use Prim.Native.Nat.{ℕ, _-_}
 use Prim.Native.String as quoted
-use mathlib.Core.Bool.{Bool, cond, not, _&&_, _||_}
+use mathlib.Core.Bool.{Bool, cond, not, _||_}
 use mathlib.Core.List.{List, [], _∷_}
 use lib.Dec.{ltb, eqb}
 use lib.IntN.{ℤ, pos}

@@ -36,7 +36,8 @@ bufferOf long.Not = Unreadable
 abbrev pub bufferIn : List ℕ → ℕ → Asked
 bufferIn text past = bufferOf (lengthIn text past)
 
--- the ten numbers of a line `readings`, each with whether it can be read: ST1 ST2 SOC CURRENT PACKV CAPACITY AF LF AW LW
+-- the ten numbers of a line `readings`, each with whether it can be read, in the order ST1 ST2 SOC CURRENT PACKV
+-- CAPACITY AF LF AW LW
 pub record Ten : Type 0 where
   pub one : UpTo
   pub two : UpTo

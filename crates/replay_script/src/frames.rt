@@ -1,6 +1,7 @@
 // The lines of received frames.
 ghost use mathlib.Core.Path.{_≡_};
-ghost use Rattle.replay_script.specs.Frames.{identifierIn, dataIn, receivedIn, frameAtOf, frameIn, frameBytes, loggedIn, loggedBytes};
+ghost use Rattle.replay_script.specs.Frames.{identifierIn, dataIn, receivedIn, frameAtOf};
+ghost use Rattle.replay_script.specs.Frames.{frameIn, frameBytes, loggedIn, loggedBytes};
 ghost use Rattle.replay_text.specs.Chars.{laidFirst};
 ghost use Rattle.replay_text.specs.Hex.{bytesIn};
 use crate::Asked;

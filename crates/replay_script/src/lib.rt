@@ -7,8 +7,8 @@
 // and which ticks are due by a log's clock. This crate may not know any controller, what a call comes to, nor any rule
 // of the paper.
 ghost use mathlib.Core.Path.{_≡_};
-ghost use lib.IntN.{pos};
-ghost use Rattle.replay_script.specs.Lines.{kindIn, asksOf, bytesOf, voltsOf, tempsOf, isLonger, askedIn, bytesAfter, voltsAfter, tempsAfter};
+ghost use Rattle.replay_script.specs.Lines.{kindIn, asksOf, bytesOf, voltsOf, tempsOf};
+ghost use Rattle.replay_script.specs.Lines.{isLonger, askedIn, bytesAfter, voltsAfter, tempsAfter};
 use lent::Temperatures;
 use lent::Voltages;
 use readings::Readings;
@@ -124,7 +124,7 @@ fn longer(at: usize, end: usize) -> bool
 }
 
 // What the line asks for that begins at a place and has its newline at another. The bytes that it gives are laid into
-// `bytes`, the entries of a table into that table, and nothing is kept of a line that cannot be read. A blank line or a
+// `bytes`, the entries of a table into that table; of a table that cannot be read nothing is kept. A blank line or a
 // comment is ignored, however long; any other may have 4,096 characters.
 pub fn read_line(
     text: &Text,

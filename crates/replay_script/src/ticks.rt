@@ -143,7 +143,8 @@ pub fn voltages(text: &Text, past: usize, v: &mut Voltages) -> Asked
 // The numbers to the end of the line, at most 512, as the table of temperatures.
 pub fn temperatures(text: &Text, past: usize, t: &mut Temperatures) -> Asked
     ensures answer { λ r. ⌜ r ≡ temperaturesOf (temperaturesIn (now (text .entry)) past) ⌝ }
-    ensures later { λ r. ⌜ now (t .exit) ≡ tableOf (pos 0) (now (t .entry)) (temperaturesIn (now (text .entry)) past) ⌝ }
+    ensures later { λ r. ⌜ now (t .exit)
+        ≡ tableOf (pos 0) (now (t .entry)) (temperaturesIn (now (text .entry)) past) ⌝ }
 {
     let mut table = [0i16; 512];
     let mut at = past;

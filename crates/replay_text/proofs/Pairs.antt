@@ -7,11 +7,10 @@ use native.Mathlib.Numerals.{add-one}
 use native.Mathlib.Omega.{arith}
 use borrow.Author.Tests.{lt-ltb, le-ltb, ltb-true, ltb-false}
 use lib.Dec.{ltb}
-use lib.ListN.{length, getD, take, drop, set, length-set, List·getD-eq-default, take-append-drop}
+use lib.ListN.{length, take, drop, set, length-set, List·getD-eq-default, take-append-drop}
 use lib.Seq.{take-nil, take-suc-set, drop-set-lt, drop-drop, append-snoc, length-take-le}
-use Rattle.replay_text.specs.declared.hex.Hex.{Hex}
 use Rattle.replay_text.specs.declared.hex.Hex.the-variants.{Bytes, Not}
-use Rattle.replay_text.specs.Chars.{newline, byteAt, leading, laidFirst}
+use Rattle.replay_text.specs.Chars.{newline, byteAt, laidFirst}
 use Rattle.replay_text.specs.Digits.{digitOf, isDigit, digitsFrom}
 use Rattle.replay_text.specs.Hex.{mostHex, hexFrom, pairsOf, wholePairs, bytesIn, hexIn}
 use Rattle.replay_text.proofs.Walks.{read-there, leading-more, leading-none, leading-past}

@@ -1,18 +1,18 @@
 -- What digits come to. Assumes nothing.
 use Prim.Native.Nat.{ℕ, suc, _+_, _*_, _^_, _≤_, _<_}
-use mathlib.Core.Path.{_≡_, refl, sym, _∙_, ap}
+use mathlib.Core.Path.{_≡_, refl, ap}
 use mathlib.Core.List.{List, [], _∷_}
 use mathlib.Core.Bool.{Bool, true, false, cond}
 use native.Mathlib.Nat.{le-refl, mul-le-mul, mul-le-mul-right, pow-zero, pow-suc, pow-le-pow-right}
 use native.Mathlib.Omega.{arith}
-use borrow.Author.Tests.{lt-ltb, le-ltb, ltb-true, ltb-false}
+use borrow.Author.Tests.{lt-ltb, ltb-true, ltb-false}
 use lib.Dec.{ltb}
 use lib.ListN.{length, getD, drop}
 use Rattle.replay_text.specs.declared.digits.Digits.{Digits}
 use Rattle.replay_text.specs.Chars.{leading}
 use Rattle.replay_text.specs.Digits.{digitOf, isDigit, digitsFrom, plainAfter, cappedAfter, withDigit, tooMuch}
 use Rattle.replay_text.specs.Digits.{digitsAfter, digitsAt}
-use Rattle.replay_text.proofs.Walks.{leading-more, leading-none, leading-past}
+use Rattle.replay_text.proofs.Walks.{leading-more}
 
 -- the same digits, known by other names for their parts
 digits-eq : {a b v w p q : ℕ} → a ≡ b → v ≡ w → p ≡ q

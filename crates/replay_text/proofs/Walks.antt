@@ -1,14 +1,13 @@
 -- A walk along the text that passes each character of a kind: where it stops. Assumes nothing.
 use Prim.Native.Nat.{ℕ, suc, _+_, _≤_, _<_}
-use mathlib.Core.Path.{_≡_, refl, sym, _∙_, ap}
+use mathlib.Core.Path.{_≡_, sym, _∙_, ap}
 use mathlib.Core.List.{List, [], _∷_}
 use mathlib.Core.Bool.{Bool, true, false, cond}
-use native.Mathlib.Nat.{not-suc-le-zero, add-zero}
 use native.Mathlib.Numerals.{add-one}
 use native.Mathlib.Omega.{arith}
 use lib.ListN.{length, getD, drop, drop-of-length-le, length-drop}
 use lib.Seq.{drop-cons}
-use Rattle.replay_text.specs.Chars.{newline, byteAt, leading, pastAll}
+use Rattle.replay_text.specs.Chars.{leading, pastAll}
 
 -- a character that is there is the same whatever stands for one that is not
 pub read-there : (text : List ℕ) (at a b : ℕ) → at < length text → getD text at a ≡ getD text at b

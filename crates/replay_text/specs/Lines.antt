@@ -1,7 +1,7 @@
 -- The lines of the text, and what is held of one that the input has not ended yet. A line may have 4,096 characters; a
 -- longer one is unreadable (docs/REPLAY.md, "Input").
 use Prim.Native.Nat.{ℕ, suc}
-use mathlib.Core.Bool.{Bool, cond, _&&_}
+use mathlib.Core.Bool.{cond, _&&_}
 use mathlib.Core.List.{List, [], _∷_}
 use lib.Dec.{ltb, leb, eqb}
 use lib.ListN.{length, take, drop, set}

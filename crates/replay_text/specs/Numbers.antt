@@ -1,9 +1,9 @@
 -- A decimal number is digits, with a sign before them or none (docs/REPLAY.md, "Input").
 use Prim.Native.Char.{code}
 use Prim.Native.Nat.{ℕ, min}
-use mathlib.Core.Bool.{Bool, true, false, cond, not, _&&_, _||_}
+use mathlib.Core.Bool.{Bool, false, cond, not, _&&_, _||_}
 use mathlib.Core.List.{List}
-use lib.Dec.{ltb, leb, eqb}
+use lib.Dec.{leb, eqb}
 use lib.IntN.{ℤ, pos, _-ℤ_}
 use Rattle.replay_text.specs.declared.words.Word.{Word}
 use Rattle.replay_text.specs.declared.digits.Digits.{Digits}

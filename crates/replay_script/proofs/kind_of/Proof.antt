@@ -14,7 +14,9 @@ is-word-requires c κs = search needs
 
 returns : tie.Need-returns
 unfolding kindIn
-returns c = rw (sym (c .before .is-word .ensures) ∙ c .if1 .taken)
+returns c =
+    let w1 = c .before in
+    rw (sym (w1 .is-word .ensures) ∙ c .if1 .taken)
 
 slice-aggregate-is-word-2 : tie.Need-slice-aggregate-is-word-2
 slice-aggregate-is-word-2 c = search needs
@@ -25,9 +27,11 @@ is-word-requires-2 c κs = search needs
 returns-2 : tie.Need-returns-2
 unfolding kindIn
 returns-2 c =
+    let w2 = c .before in
+    let w1 = w2 .before .before .before in
     rw (
-      sym (c .before .before .before .before .is-word .ensures) ∙ c .before .before .before .if1 .left,
-      sym (c .before .is-word2 .ensures) ∙ c .if2 .taken,
+      sym (w1 .is-word .ensures) ∙ w2 .before .before .if1 .left,
+      sym (w2 .is-word2 .ensures) ∙ c .if2 .taken,
     )
 
 slice-aggregate-is-word-3 : tie.Need-slice-aggregate-is-word-3
@@ -39,10 +43,13 @@ is-word-requires-3 c κs = search needs
 returns-3 : tie.Need-returns-3
 unfolding kindIn
 returns-3 c =
+    let w3 = c .before in
+    let w2 = w3 .before .before .before in
+    let w1 = w2 .before .before .before in
     rw (
-      sym (c .before .before .before .before .before .before .before .is-word .ensures) ∙ c .before .before .before .before .before .before .if1 .left,
-      sym (c .before .before .before .before .is-word2 .ensures) ∙ c .before .before .before .if2 .left,
-      sym (c .before .is-word3 .ensures) ∙ c .if3 .taken,
+      sym (w1 .is-word .ensures) ∙ w2 .before .before .if1 .left,
+      sym (w2 .is-word2 .ensures) ∙ w3 .before .before .if2 .left,
+      sym (w3 .is-word3 .ensures) ∙ c .if3 .taken,
     )
 
 slice-aggregate-is-word-4 : tie.Need-slice-aggregate-is-word-4
@@ -54,11 +61,15 @@ is-word-requires-4 c κs = search needs
 returns-4 : tie.Need-returns-4
 unfolding kindIn
 returns-4 c =
+    let w4 = c .before in
+    let w3 = w4 .before .before .before in
+    let w2 = w3 .before .before .before in
+    let w1 = w2 .before .before .before in
     rw (
-      sym (c .before .before .before .before .before .before .before .before .before .before .is-word .ensures) ∙ c .before .before .before .before .before .before .before .before .before .if1 .left,
-      sym (c .before .before .before .before .before .before .before .is-word2 .ensures) ∙ c .before .before .before .before .before .before .if2 .left,
-      sym (c .before .before .before .before .is-word3 .ensures) ∙ c .before .before .before .if3 .left,
-      sym (c .before .is-word4 .ensures) ∙ c .if4 .taken,
+      sym (w1 .is-word .ensures) ∙ w2 .before .before .if1 .left,
+      sym (w2 .is-word2 .ensures) ∙ w3 .before .before .if2 .left,
+      sym (w3 .is-word3 .ensures) ∙ w4 .before .before .if3 .left,
+      sym (w4 .is-word4 .ensures) ∙ c .if4 .taken,
     )
 
 slice-aggregate-is-word-5 : tie.Need-slice-aggregate-is-word-5
@@ -70,12 +81,17 @@ is-word-requires-5 c κs = search needs
 returns-5 : tie.Need-returns-5
 unfolding kindIn
 returns-5 c =
+    let w5 = c .before in
+    let w4 = w5 .before .before .before in
+    let w3 = w4 .before .before .before in
+    let w2 = w3 .before .before .before in
+    let w1 = w2 .before .before .before in
     rw (
-      sym (c .before .before .before .before .before .before .before .before .before .before .before .before .before .is-word .ensures) ∙ c .before .before .before .before .before .before .before .before .before .before .before .before .if1 .left,
-      sym (c .before .before .before .before .before .before .before .before .before .before .is-word2 .ensures) ∙ c .before .before .before .before .before .before .before .before .before .if2 .left,
-      sym (c .before .before .before .before .before .before .before .is-word3 .ensures) ∙ c .before .before .before .before .before .before .if3 .left,
-      sym (c .before .before .before .before .is-word4 .ensures) ∙ c .before .before .before .if4 .left,
-      sym (c .before .is-word5 .ensures) ∙ c .if5 .taken,
+      sym (w1 .is-word .ensures) ∙ w2 .before .before .if1 .left,
+      sym (w2 .is-word2 .ensures) ∙ w3 .before .before .if2 .left,
+      sym (w3 .is-word3 .ensures) ∙ w4 .before .before .if3 .left,
+      sym (w4 .is-word4 .ensures) ∙ w5 .before .before .if4 .left,
+      sym (w5 .is-word5 .ensures) ∙ c .if5 .taken,
     )
 
 slice-aggregate-is-word-6 : tie.Need-slice-aggregate-is-word-6
@@ -87,13 +103,19 @@ is-word-requires-6 c κs = search needs
 returns-6 : tie.Need-returns-6
 unfolding kindIn
 returns-6 c =
+    let w6 = c .before in
+    let w5 = w6 .before .before .before in
+    let w4 = w5 .before .before .before in
+    let w3 = w4 .before .before .before in
+    let w2 = w3 .before .before .before in
+    let w1 = w2 .before .before .before in
     rw (
-      sym (c .before .before .before .before .before .before .before .before .before .before .before .before .before .before .before .before .is-word .ensures) ∙ c .before .before .before .before .before .before .before .before .before .before .before .before .before .before .before .if1 .left,
-      sym (c .before .before .before .before .before .before .before .before .before .before .before .before .before .is-word2 .ensures) ∙ c .before .before .before .before .before .before .before .before .before .before .before .before .if2 .left,
-      sym (c .before .before .before .before .before .before .before .before .before .before .is-word3 .ensures) ∙ c .before .before .before .before .before .before .before .before .before .if3 .left,
-      sym (c .before .before .before .before .before .before .before .is-word4 .ensures) ∙ c .before .before .before .before .before .before .if4 .left,
-      sym (c .before .before .before .before .is-word5 .ensures) ∙ c .before .before .before .if5 .left,
-      sym (c .before .is-word6 .ensures) ∙ c .if6 .taken,
+      sym (w1 .is-word .ensures) ∙ w2 .before .before .if1 .left,
+      sym (w2 .is-word2 .ensures) ∙ w3 .before .before .if2 .left,
+      sym (w3 .is-word3 .ensures) ∙ w4 .before .before .if3 .left,
+      sym (w4 .is-word4 .ensures) ∙ w5 .before .before .if4 .left,
+      sym (w5 .is-word5 .ensures) ∙ w6 .before .before .if5 .left,
+      sym (w6 .is-word6 .ensures) ∙ c .if6 .taken,
     )
 
 slice-aggregate-is-word-7 : tie.Need-slice-aggregate-is-word-7
@@ -105,14 +127,21 @@ is-word-requires-7 c κs = search needs
 returns-7 : tie.Need-returns-7
 unfolding kindIn
 returns-7 c =
+    let w7 = c .before in
+    let w6 = w7 .before .before .before in
+    let w5 = w6 .before .before .before in
+    let w4 = w5 .before .before .before in
+    let w3 = w4 .before .before .before in
+    let w2 = w3 .before .before .before in
+    let w1 = w2 .before .before .before in
     rw (
-      sym (c .before .before .before .before .before .before .before .before .before .before .before .before .before .before .before .before .before .before .before .is-word .ensures) ∙ c .before .before .before .before .before .before .before .before .before .before .before .before .before .before .before .before .before .before .if1 .left,
-      sym (c .before .before .before .before .before .before .before .before .before .before .before .before .before .before .before .before .is-word2 .ensures) ∙ c .before .before .before .before .before .before .before .before .before .before .before .before .before .before .before .if2 .left,
-      sym (c .before .before .before .before .before .before .before .before .before .before .before .before .before .is-word3 .ensures) ∙ c .before .before .before .before .before .before .before .before .before .before .before .before .if3 .left,
-      sym (c .before .before .before .before .before .before .before .before .before .before .is-word4 .ensures) ∙ c .before .before .before .before .before .before .before .before .before .if4 .left,
-      sym (c .before .before .before .before .before .before .before .is-word5 .ensures) ∙ c .before .before .before .before .before .before .if5 .left,
-      sym (c .before .before .before .before .is-word6 .ensures) ∙ c .before .before .before .if6 .left,
-      sym (c .before .is-word7 .ensures) ∙ c .if7 .taken,
+      sym (w1 .is-word .ensures) ∙ w2 .before .before .if1 .left,
+      sym (w2 .is-word2 .ensures) ∙ w3 .before .before .if2 .left,
+      sym (w3 .is-word3 .ensures) ∙ w4 .before .before .if3 .left,
+      sym (w4 .is-word4 .ensures) ∙ w5 .before .before .if4 .left,
+      sym (w5 .is-word5 .ensures) ∙ w6 .before .before .if5 .left,
+      sym (w6 .is-word6 .ensures) ∙ w7 .before .before .if6 .left,
+      sym (w7 .is-word7 .ensures) ∙ c .if7 .taken,
     )
 
 byte-at-requires : tie.Need-byte-at-requires
@@ -121,14 +150,21 @@ byte-at-requires c κs = search needs
 returns-8 : tie.Need-returns-8
 unfolding kindIn
 returns-8 c =
+    let w7 = c .before .before .before in
+    let w6 = w7 .before .before .before in
+    let w5 = w6 .before .before .before in
+    let w4 = w5 .before .before .before in
+    let w3 = w4 .before .before .before in
+    let w2 = w3 .before .before .before in
+    let w1 = w2 .before .before .before in
     rw (
-      sym (c .before .before .before .before .before .before .before .before .before .before .before .before .before .before .before .before .before .before .before .before .before .is-word .ensures) ∙ c .before .before .before .before .before .before .before .before .before .before .before .before .before .before .before .before .before .before .before .before .if1 .left,
-      sym (c .before .before .before .before .before .before .before .before .before .before .before .before .before .before .before .before .before .before .is-word2 .ensures) ∙ c .before .before .before .before .before .before .before .before .before .before .before .before .before .before .before .before .before .if2 .left,
-      sym (c .before .before .before .before .before .before .before .before .before .before .before .before .before .before .before .is-word3 .ensures) ∙ c .before .before .before .before .before .before .before .before .before .before .before .before .before .before .if3 .left,
-      sym (c .before .before .before .before .before .before .before .before .before .before .before .before .is-word4 .ensures) ∙ c .before .before .before .before .before .before .before .before .before .before .before .if4 .left,
-      sym (c .before .before .before .before .before .before .before .before .before .is-word5 .ensures) ∙ c .before .before .before .before .before .before .before .before .if5 .left,
-      sym (c .before .before .before .before .before .before .is-word6 .ensures) ∙ c .before .before .before .before .before .if6 .left,
-      sym (c .before .before .before .is-word7 .ensures) ∙ c .before .before .if7 .left,
+      sym (w1 .is-word .ensures) ∙ w2 .before .before .if1 .left,
+      sym (w2 .is-word2 .ensures) ∙ w3 .before .before .if2 .left,
+      sym (w3 .is-word3 .ensures) ∙ w4 .before .before .if3 .left,
+      sym (w4 .is-word4 .ensures) ∙ w5 .before .before .if4 .left,
+      sym (w5 .is-word5 .ensures) ∙ w6 .before .before .if5 .left,
+      sym (w6 .is-word6 .ensures) ∙ w7 .before .before .if6 .left,
+      sym (w7 .is-word7 .ensures) ∙ c .before .before .if7 .left,
       ← c .before .byte-at .ensures,
       eq-eqb _ _ (c .if8 .taken),
     )
@@ -136,14 +172,21 @@ returns-8 c =
 returns-9 : tie.Need-returns-9
 unfolding kindIn
 returns-9 c =
+    let w7 = c .before .before .before in
+    let w6 = w7 .before .before .before in
+    let w5 = w6 .before .before .before in
+    let w4 = w5 .before .before .before in
+    let w3 = w4 .before .before .before in
+    let w2 = w3 .before .before .before in
+    let w1 = w2 .before .before .before in
     rw (
-      sym (c .before .before .before .before .before .before .before .before .before .before .before .before .before .before .before .before .before .before .before .before .before .is-word .ensures) ∙ c .before .before .before .before .before .before .before .before .before .before .before .before .before .before .before .before .before .before .before .before .if1 .left,
-      sym (c .before .before .before .before .before .before .before .before .before .before .before .before .before .before .before .before .before .before .is-word2 .ensures) ∙ c .before .before .before .before .before .before .before .before .before .before .before .before .before .before .before .before .before .if2 .left,
-      sym (c .before .before .before .before .before .before .before .before .before .before .before .before .before .before .before .is-word3 .ensures) ∙ c .before .before .before .before .before .before .before .before .before .before .before .before .before .before .if3 .left,
-      sym (c .before .before .before .before .before .before .before .before .before .before .before .before .is-word4 .ensures) ∙ c .before .before .before .before .before .before .before .before .before .before .before .if4 .left,
-      sym (c .before .before .before .before .before .before .before .before .before .is-word5 .ensures) ∙ c .before .before .before .before .before .before .before .before .if5 .left,
-      sym (c .before .before .before .before .before .before .is-word6 .ensures) ∙ c .before .before .before .before .before .if6 .left,
-      sym (c .before .before .before .is-word7 .ensures) ∙ c .before .before .if7 .left,
+      sym (w1 .is-word .ensures) ∙ w2 .before .before .if1 .left,
+      sym (w2 .is-word2 .ensures) ∙ w3 .before .before .if2 .left,
+      sym (w3 .is-word3 .ensures) ∙ w4 .before .before .if3 .left,
+      sym (w4 .is-word4 .ensures) ∙ w5 .before .before .if4 .left,
+      sym (w5 .is-word5 .ensures) ∙ w6 .before .before .if5 .left,
+      sym (w6 .is-word6 .ensures) ∙ w7 .before .before .if6 .left,
+      sym (w7 .is-word7 .ensures) ∙ c .before .before .if7 .left,
       ← c .before .byte-at .ensures,
       ne-eqb _ _ (c .if8 .left),
     )

@@ -3,7 +3,7 @@ use borrow.Author.Needs.{needs}
 use mathlib.Core.Path.{_≡_, sym, _∙_}
 use mathlib.Core.Bool.{true, false}
 use denote.Ref.{now}
-use Rattle.replay_script.specs.Lines.{isIgnored, isLonger}
+use Rattle.replay_script.specs.Lines.{isIgnored}
 use Rattle.replay_script.proofs.Looked.{ignored, too-long, looked-at}
 use Rattle.replay_script.proofs.read_line.Statement.{statement}
 use Rattle.replay_script.proofs.read_line.Tie as tie
@@ -29,8 +29,10 @@ returns-2 : tie.Need-returns-2
 unfolding isIgnored
 returns-2 c =
     let a = c .before .before .before .before .before .args in
+    let e = c .before .before in
+    let g = e .before in
     let i : isIgnored (now (a .text)) (a .at) ≡ false
-    = rw (← c .before .before .before .before .past-gaps .ensures, ← c .before .before .before .byte-at .ensures) (c .before .before .if1 .left) in
+    = rw (← g .before .past-gaps .ensures, ← g .byte-at .ensures) (e .if1 .left) in
     too-long _ _ _ (now (a .text)) (a .at) (a .end) i (sym (c .before .longer .ensures) ∙ c .if2 .taken)
 
 read-words-requires : tie.Need-read-words-requires
@@ -40,10 +42,11 @@ returns-3 : tie.Need-returns-3
 unfolding isIgnored
 returns-3 c =
     let a = c .before .before .before .before .before .before .before .before .before .args in
-    let p = c .before .before .before .before .before .before .before .before .past-gaps .ensures in
-    let i : isIgnored (now (a .text)) (a .at) ≡ false
-    = rw (← p, ← c .before .before .before .before .before .before .before .byte-at .ensures) (c .before .before .before .before .before .before .if1 .left) in
-    let l = sym (c .before .before .before .before .before .longer .ensures) ∙ c .before .before .before .before .if2 .left in
+    let f = c .before .before .before .before in
+    let e = f .before .before in
+    let p = e .before .before .past-gaps .ensures in
+    let i : isIgnored (now (a .text)) (a .at) ≡ false = rw (← p, ← e .before .byte-at .ensures) (e .if1 .left) in
+    let l = sym (f .before .longer .ensures) ∙ f .if2 .left in
     looked-at _ _ _ _ _ _ _ (now (a .text)) (a .at) (a .end) i l (rw (← p) (c .read-words .ensures))
 
 pub read-line-spec : {M : Type 1} → statement M

@@ -1,12 +1,11 @@
 -- `replay_script::clock::read_time` meets its contract: its parts are those of the definition, and 12 digits of seconds
 -- with six of microseconds fit. Assumes nothing.
 use borrow.Author.Needs.{needs}
-use Prim.Native.Nat.{ℕ, _*_, _<_, _≤_}
-use mathlib.Core.Path.{_≡_, _∙_, refl, ap}
+use Prim.Native.Nat.{ℕ, _<_, _≤_}
+use mathlib.Core.Path.{_≡_}
 use mathlib.Core.Bool.{Bool, true, _&&_}
 use native.Mathlib.Omega.{arith}
 use borrow.Author.Tests.{leb-true, eqb-true}
-use denote.Ref.{now}
 use lib.Dec.{leb, eqb}
 use Rattle.replay_script.specs.Clocks.{isTime, timeIn}
 use Rattle.replay_script.proofs.Tests.{and-left, and-right}
@@ -53,7 +52,7 @@ mul-t19 c =
     let s = u .before .before in
     let t =
     time-counts (eqb (r .before .before .before .byte-at .result) 40) (eqb (r .before .before .byte-at2 .result) 46)
-    (eqb (r .before .byte-at3 .result) 41) (eqb (r .after3 .result) (r .before .before .before .before .before .before .before .before .args .w .to))
+    (eqb (r .before .byte-at3 .result) 41) (eqb (r .after3 .result) (s .before .before .args .w .to))
     (leb 1 (s .read-digits .result .count)) (s .read-digits .result .count) (u .read-digits2 .result .count)
     (c .before .if1 .taken) in
     let h : s .read-digits .result .value < 1_000_000_000_000
@@ -67,7 +66,7 @@ add-t20 c =
     let s = u .before .before in
     let t =
     time-counts (eqb (r .before .before .before .byte-at .result) 40) (eqb (r .before .before .byte-at2 .result) 46)
-    (eqb (r .before .byte-at3 .result) 41) (eqb (r .after3 .result) (r .before .before .before .before .before .before .before .before .args .w .to))
+    (eqb (r .before .byte-at3 .result) 41) (eqb (r .after3 .result) (s .before .before .args .w .to))
     (leb 1 (s .read-digits .result .count)) (s .read-digits .result .count) (u .read-digits2 .result .count)
     (c .before .before .if1 .taken) in
     let h : s .read-digits .result .value < 1_000_000_000_000

@@ -1,4 +1,5 @@
--- `replay_script::frames::logged` meets its contract: each case of the time is a line of the definition. Assumes nothing.
+-- `replay_script::frames::logged` meets its contract: each case of the time is a line of the definition. Assumes
+-- nothing.
 use borrow.Author.Needs.{needs}
 use Rattle.replay_script.specs.Frames.{loggedOf, timedBytes}
 use Rattle.replay_script.proofs.frames.logged.Statement.{statement}

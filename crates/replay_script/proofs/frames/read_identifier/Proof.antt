@@ -1,5 +1,5 @@
--- `replay_script::frames::read_identifier` meets its contract: its parts are those of the definition, and eight hex digits
--- fit 32 bits. Assumes nothing.
+-- `replay_script::frames::read_identifier` meets its contract: its parts are those of the definition, and eight hex
+-- digits fit 32 bits. Assumes nothing.
 use borrow.Author.Needs.{needs}
 use Prim.Native.Nat.{ℕ, _<_, _≤_}
 use mathlib.Core.Path.{_≡_}
@@ -46,7 +46,11 @@ returns c = rw (
 
 returns-2 : tie.Need-returns-2
 unfolding identifierOf
-returns-2 c = rw (← c .before .before .before .before .read-digits .ensures, ← c .before .byte-at .ensures, c .if1 .left)
+returns-2 c = rw (
+  ← c .before .before .before .before .read-digits .ensures,
+  ← c .before .byte-at .ensures,
+  c .if1 .left,
+)
 
 pub read-identifier-spec : {M : Type 1} → statement M
 read-identifier-spec =

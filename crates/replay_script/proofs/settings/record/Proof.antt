@@ -1,5 +1,5 @@
--- `replay_script::settings::record` meets its contract: its tests are those of the definition, and neither a newline nor
--- `-` begins bytes in hex. Assumes nothing.
+-- `replay_script::settings::record` meets its contract: its tests are those of the definition, and neither a newline
+-- nor `-` begins bytes in hex. Assumes nothing.
 use borrow.Author.Needs.{needs}
 use Prim.Native.Char.{code}
 use Prim.Native.Nat.{ℕ, _≤_}
@@ -59,7 +59,8 @@ returns-2 c =
     let p = c .before .before .before .before .before .past-gaps .ensures in
     let r = c .before .before .before .before .byte-at .ensures in
     let t = c .before .before .if2 .taken in (
-      rw (← p, ← r, ne-eqb _ _ (c .before .before .before .if1 .left), eq-eqb _ _ t) (c .closed .ensures ∙ rw (c .before .after .ensures)),
+      rw (← p, ← r, ne-eqb _ _ (c .before .before .before .if1 .left), eq-eqb _ _ t)
+          (c .closed .ensures ∙ rw (c .before .after .ensures)),
       rw (← p) (unread (now (a .text)) _ (code "-") _ (sym r ∙ t) hyphen-none),
     )
 

@@ -1,4 +1,5 @@
--- `replay_script::ticks::buffer` meets its contract: each case of the length is a line of the definition. Assumes nothing.
+-- `replay_script::ticks::buffer` meets its contract: each case of the length is a line of the definition. Assumes
+-- nothing.
 use borrow.Author.Needs.{needs}
 use Rattle.replay_script.specs.Ticks.{bufferOf}
 use Rattle.replay_script.proofs.ticks.buffer.Statement.{statement}

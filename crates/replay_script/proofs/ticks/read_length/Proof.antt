@@ -1,6 +1,6 @@
 -- `replay_script::ticks::read_length` meets its contract: a number up to 4096 is not cut. Assumes nothing.
 use borrow.Author.Needs.{needs}
-use mathlib.Core.Path.{_≡_, sym, _∙_, ap}
+use mathlib.Core.Path.{_≡_}
 use mathlib.Core.Bool.{true}
 use native.Mathlib.Omega.{arith}
 use borrow.Author.Tests.{le-leb}
@@ -27,7 +27,12 @@ returns c =
     let n = c .before .before .only-up-to in
     let g : onlyIn (now (a .text)) (a .past) mostRoom .good ≡ true = rw (← n .ensures) (c .before .if1 .taken) in
     let m = only-most (now (a .text)) (a .past) mostRoom g in
-    rw (g, c .wide .ensures, n .ensures, le-leb (onlyIn (now (a .text)) (a .past) mostRoom .value) 65535 (omega arith))
+    rw (
+      g,
+      c .wide .ensures,
+      n .ensures,
+      le-leb (onlyIn (now (a .text)) (a .past) mostRoom .value) 65535 (omega arith),
+    )
 
 returns-2 : tie.Need-returns-2
 unfolding lengthIn

@@ -1,5 +1,5 @@
--- `replay_script::ticks::readings` meets its contract: the numbers that it reads are those of the definition, and none that
--- can be read is cut. Assumes nothing.
+-- `replay_script::ticks::readings` meets its contract: the numbers that it reads are those of the definition, and none
+-- that can be read is cut. Assumes nothing.
 use borrow.Author.Needs.{needs}
 use mathlib.Core.Path.{_≡_}
 use borrow.Author.Tests.{not-true, not-false}
@@ -112,7 +112,8 @@ small-requires-7 c κs = search needs
 returns-2 : tie.Need-returns-2
 unfolding tenIn
 returns-2 c =
-    let r = c .before .before .before .before .before .before .before .before .before .before .before .before .before .before .before .before .before .before .before .before .before in
+    let i = c .before .before .before .before .before .before .before .before .before .before in
+    let r = i .before .before .before .before .before .before .before .before .before .before .before in
     let e = r .before in
     let d = e .before in
     let l = d .before in
@@ -149,9 +150,8 @@ returns-2 c =
       ← e .next-up-to8 .ensures,
       ← r .only-up-to .ensures,
     ) in
-    let m = c .before in
     rw (toZ-ofZ (record { sfits = c .struct-told .given .1 .0 .1 }))
-    (ten-read (now (o .args .text)) (o .args .past) x is (not-false (allGood x) (c .before .before .before .before .before .before .before .before .before .before .if1 .left))
+    (ten-read (now (o .args .text)) (o .args .past) x is (not-false (allGood x) (i .if1 .left))
     _ _ _ _ _ _ _ _ _
     (c .before .before .before .before .before .before .before .before .before .small .ensures)
     (c .before .before .before .before .before .before .before .before .small2 .ensures)

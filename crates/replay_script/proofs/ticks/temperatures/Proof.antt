@@ -1,6 +1,6 @@
--- `replay_script::ticks::temperatures` meets its contract. The loop's invariant: so many numbers are read and stored, and
--- the rest are those from the place come to (proofs/Entries.antt). The measure is the entries that are left. Assumes
--- nothing.
+-- `replay_script::ticks::temperatures` meets its contract. The loop's invariant: so many numbers are read and stored,
+-- and the rest are those from the place come to (proofs/Entries.antt). The measure is the entries that are left.
+-- Assumes nothing.
 use borrow.Author.Needs.{needs}
 use Prim.Native.Nat.{ℕ, _-_}
 use mathlib.Core.Path.{_≡_, sym, _∙_}
@@ -22,7 +22,8 @@ use Rattle.replay_script.proofs.ticks.temperatures.Tie as tie
 
 abbrev Inv-loop : tie.InvT-loop
 Inv-loop text past t table₀ at₀ n₀ table at n =
-    Stored text (λ at. signedIn text at .good) (λ at. signedIn text at .value) (λ at. signedIn text at .at) (pos 0) past table n at
+    Stored text (λ at. signedIn text at .good) (λ at. signedIn text at .value)
+    (λ at. signedIn text at .at) (pos 0) past table n at
 
 abbrev μ-loop : tie.MeasureT-loop
 μ-loop text past t table₀ at₀ n₀ table at n = 512 - n
@@ -43,7 +44,8 @@ returns c =
     let t = now (a .text) in
     let at = l .loop .at in
     let r = c .before .before .next-signed in
-    let e : isEnd t at ≡ false = sym (c .before .before .before .before .is-end .ensures) ∙ c .before .before .before .if1 .left in
+    let f = c .before .before .before in
+    let e : isEnd t at ≡ false = sym (f .before .is-end .ensures) ∙ f .if1 .left in
     let g : signedIn t at .good ≡ false = rw (← r .ensures) (not-true (r .result .good) (c .if2 .taken)) in
     let n : temperaturesIn t (a .past) ≡ none = stored-bad _ _ _ _ (l .loop .inv) (omega arith) e g in
     (rw n, rw n)
@@ -66,8 +68,10 @@ loop-again c =
     let t = now (l .before .args .text) in
     let at = l .loop .at in
     let r = c .before .before .before .next-signed in
-    let e : isEnd t at ≡ false = sym (c .before .before .before .before .before .is-end .ensures) ∙ c .before .before .before .before .if1 .left in
-    let g : signedIn t at .good ≡ true = rw (← r .ensures) (not-false (r .result .good) (c .before .if2 .left)) in
+    let f = c .before .before .before .before in
+    let e : isEnd t at ≡ false = sym (f .before .is-end .ensures) ∙ f .if1 .left in
+    let g : signedIn t at .good ≡ true
+      = rw (← r .ensures) (not-false (r .result .good) (c .before .if2 .left)) in
     rw (toZ-ofZ (record { sfits = c .struct-told .given .1 .0 .1 }), r .ensures)
     (stored-more _ _ _ _ (l .loop .inv) (omega arith) e g)
 
@@ -82,8 +86,9 @@ returns-2 c =
     let r = c .before .is-end2 in
     let e : isEnd t (l .loop .at) ≡ false = sym (r .ensures) ∙ not-true (r .result) (c .if3 .taken) in
     let n : temperaturesIn t (a .past) ≡ none
-    = ⊎-elim (λ w. stored-over _ _ _ _ (l .loop .inv) (omega arith) e)
-    (λ w. absurd (false≢true (sym e ∙ (sym (w .1 .ensures) ∙ w .2 .taken)))) (c .before .before .loop-test .came) in
+      = ⊎-elim (λ w. stored-over _ _ _ _ (l .loop .inv) (omega arith) e)
+        (λ w. absurd (false≢true (sym e ∙ (sym (w .1 .ensures) ∙ w .2 .taken))))
+        (c .before .before .loop-test .came) in
     (rw n, rw n)
 
 returns-3 : tie.Need-returns-3 Inv-loop μ-loop

@@ -16,11 +16,15 @@ only-up-to-requires c κs = search needs
 
 returns-2 : tie.Need-returns-2
 unfolding ticksIn
-returns-2 c = rw (← c .before .before .before .is-end .ensures, c .before .before .if1 .left, ← c .before .only-up-to .ensures, c .if2 .taken)
+returns-2 c =
+    let e = c .before .before in
+    rw (← e .before .is-end .ensures, e .if1 .left, ← c .before .only-up-to .ensures, c .if2 .taken)
 
 returns-3 : tie.Need-returns-3
 unfolding ticksIn
-returns-3 c = rw (← c .before .before .before .is-end .ensures, c .before .before .if1 .left, ← c .before .only-up-to .ensures, c .if2 .left)
+returns-3 c =
+    let e = c .before .before in
+    rw (← e .before .is-end .ensures, e .if1 .left, ← c .before .only-up-to .ensures, c .if2 .left)
 
 pub ticks-spec : {M : Type 1} → statement M
 ticks-spec = tie.close (tie.spec is-end-requires returns only-up-to-requires returns-2 returns-3)

@@ -21,7 +21,8 @@ use Rattle.replay_script.proofs.ticks.voltages.Tie as tie
 
 abbrev Inv-loop : tie.InvT-loop
 Inv-loop text past v table₀ at₀ n₀ table at n =
-    Stored text (λ at. upToIn text at 65535 .good) (λ at. upToIn text at 65535 .value) (λ at. upToIn text at 65535 .at) 0 past table n at
+    Stored text (λ at. upToIn text at 65535 .good) (λ at. upToIn text at 65535 .value)
+    (λ at. upToIn text at 65535 .at) 0 past table n at
 
 abbrev μ-loop : tie.MeasureT-loop
 μ-loop text past v table₀ at₀ n₀ table at n = 512 - n
@@ -42,7 +43,8 @@ returns c =
     let t = now (a .text) in
     let at = l .loop .at in
     let r = c .before .before .next-up-to in
-    let e : isEnd t at ≡ false = sym (c .before .before .before .before .is-end .ensures) ∙ c .before .before .before .if1 .left in
+    let f = c .before .before .before in
+    let e : isEnd t at ≡ false = sym (f .before .is-end .ensures) ∙ f .if1 .left in
     let g : upToIn t at 65535 .good ≡ false = rw (← r .ensures) (not-true (r .result .good) (c .if2 .taken)) in
     let n : voltagesIn t (a .past) ≡ none = stored-bad _ _ _ _ (l .loop .inv) (omega arith) e g in
     (rw n, rw n)
@@ -68,11 +70,13 @@ loop-again c =
     let t = now (l .before .args .text) in
     let at = l .loop .at in
     let r = c .before .before .before .next-up-to in
-    let e : isEnd t at ≡ false = sym (c .before .before .before .before .before .is-end .ensures) ∙ c .before .before .before .before .if1 .left in
-    let g : upToIn t at 65535 .good ≡ true = rw (← r .ensures) (not-false (r .result .good) (c .before .if2 .left)) in
+    let f = c .before .before .before .before in
+    let e : isEnd t at ≡ false = sym (f .before .is-end .ensures) ∙ f .if1 .left in
+    let g : upToIn t at 65535 .good ≡ true
+      = rw (← r .ensures) (not-false (r .result .good) (c .before .if2 .left)) in
     let m = up-to-most t at 65535 g in
     let w : c .wide .result ≡ upToIn t at 65535 .value
-    = c .wide .ensures ∙ rw (r .ensures, le-leb (upToIn t at 65535 .value) 65535 m) in
+      = c .wide .ensures ∙ rw (r .ensures, le-leb (upToIn t at 65535 .value) 65535 m) in
     rw (w, r .ensures) (stored-more _ _ _ _ (l .loop .inv) (omega arith) e g)
 
 is-end-requires-2 : tie.Need-is-end-requires-2 Inv-loop μ-loop
@@ -86,8 +90,9 @@ returns-2 c =
     let r = c .before .is-end2 in
     let e : isEnd t (l .loop .at) ≡ false = sym (r .ensures) ∙ not-true (r .result) (c .if3 .taken) in
     let n : voltagesIn t (a .past) ≡ none
-    = ⊎-elim (λ w. stored-over _ _ _ _ (l .loop .inv) (omega arith) e)
-    (λ w. absurd (false≢true (sym e ∙ (sym (w .1 .ensures) ∙ w .2 .taken)))) (c .before .before .loop-test .came) in
+      = ⊎-elim (λ w. stored-over _ _ _ _ (l .loop .inv) (omega arith) e)
+        (λ w. absurd (false≢true (sym e ∙ (sym (w .1 .ensures) ∙ w .2 .taken))))
+        (c .before .before .loop-test .came) in
     (rw n, rw n)
 
 returns-3 : tie.Need-returns-3 Inv-loop μ-loop

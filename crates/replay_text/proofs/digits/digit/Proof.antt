@@ -1,5 +1,5 @@
--- `replay_text::digits::digit` meets its contract: each range of the code is one of its definition, or lies between two.
--- Assumes nothing.
+-- `replay_text::digits::digit` meets its contract: each range of the code is one of its definition, or lies between
+-- two. Assumes nothing.
 use borrow.Author.Needs.{needs}
 use native.Mathlib.Omega.{arith}
 use borrow.Author.Tests.{le-leb, lt-leb}
@@ -23,13 +23,24 @@ returns-2 : tie.Need-returns-2
 unfolding digitOf
 returns-2 c =
     let b = c .before .before .before .before .args .b in
-    rw (le-leb 48 b (omega arith), lt-leb b 57 (omega arith), lt-leb 97 b (omega arith), le-leb 65 b (omega arith), le-leb b 70 (omega arith))
+    rw (
+      le-leb 48 b (omega arith),
+      lt-leb b 57 (omega arith),
+      lt-leb 97 b (omega arith),
+      le-leb 65 b (omega arith),
+      le-leb b 70 (omega arith),
+    )
 
 returns-3 : tie.Need-returns-3
 unfolding digitOf
 returns-3 c =
     let b = c .before .before .before .before .before .before .args .b in
-    rw (le-leb 48 b (omega arith), lt-leb b 57 (omega arith), le-leb 97 b (omega arith), le-leb b 102 (omega arith))
+    rw (
+      le-leb 48 b (omega arith),
+      lt-leb b 57 (omega arith),
+      le-leb 97 b (omega arith),
+      le-leb b 102 (omega arith),
+    )
 
 returns-4 : tie.Need-returns-4
 unfolding digitOf
@@ -41,19 +52,37 @@ returns-5 : tie.Need-returns-5
 unfolding digitOf
 returns-5 c =
     let b = c .before .before .before .args .b in
-    rw (le-leb 48 b (omega arith), lt-leb b 57 (omega arith), lt-leb 97 b (omega arith), lt-leb 65 b (omega arith))
+    rw (
+      le-leb 48 b (omega arith),
+      lt-leb b 57 (omega arith),
+      lt-leb 97 b (omega arith),
+      lt-leb 65 b (omega arith),
+    )
 
 returns-6 : tie.Need-returns-6
 unfolding digitOf
 returns-6 c =
     let b = c .before .before .before .before .before .args .b in
-    rw (le-leb 48 b (omega arith), lt-leb b 57 (omega arith), lt-leb 97 b (omega arith), le-leb 65 b (omega arith), lt-leb b 70 (omega arith))
+    rw (
+      le-leb 48 b (omega arith),
+      lt-leb b 57 (omega arith),
+      lt-leb 97 b (omega arith),
+      le-leb 65 b (omega arith),
+      lt-leb b 70 (omega arith),
+    )
 
 returns-7 : tie.Need-returns-7
 unfolding digitOf
 returns-7 c =
     let b = c .before .before .before .before .before .before .args .b in
-    rw (le-leb 48 b (omega arith), lt-leb b 57 (omega arith), le-leb 97 b (omega arith), lt-leb b 102 (omega arith), le-leb 65 b (omega arith), lt-leb b 70 (omega arith))
+    rw (
+      le-leb 48 b (omega arith),
+      lt-leb b 57 (omega arith),
+      le-leb 97 b (omega arith),
+      lt-leb b 102 (omega arith),
+      le-leb 65 b (omega arith),
+      lt-leb b 70 (omega arith),
+    )
 
 pub digit-spec : {M : Type 1} → statement M
 digit-spec =

@@ -9,14 +9,15 @@ use native.Mathlib.Omega.{arith}
 use borrow.Author.Tests.{lt-ltb, le-ltb}
 use denote.Ref.{now}
 use lib.ListN.{getD}
-use Rattle.replay_text.specs.Digits.{digitOf, isDigit, digitsAfter, digitsAt}
+use Rattle.replay_text.specs.Digits.{isDigit, digitsAfter, digitsAt}
 use Rattle.replay_text.proofs.Walks.{leading-none, leading-past}
 use Rattle.replay_text.proofs.Values.{digits-more, digits-end}
 use Rattle.replay_text.proofs.digits.read_digits.Statement.{statement}
 use Rattle.replay_text.proofs.digits.read_digits.Tie as tie
 
 abbrev Inv-loop : tie.InvT-loop
-Inv-loop text from base n count₀ value₀ at₀ count value at = (count ≤ at) × (digitsAt base text from ≡ digitsAfter base text count value at)
+Inv-loop text from base n count₀ value₀ at₀ count value at =
+    (count ≤ at) × (digitsAt base text from ≡ digitsAfter base text count value at)
 
 abbrev μ-loop : tie.MeasureT-loop
 μ-loop text from base n count₀ value₀ at₀ count value at = n - at

@@ -1,5 +1,5 @@
--- `replay_text::hex::read_bytes` meets its contract. The loop's invariant: so many bytes are read and laid, and the rest
--- are those of the digits to come (proofs/Pairs.antt). The measure is the room that is left. Assumes nothing.
+-- `replay_text::hex::read_bytes` meets its contract. The loop's invariant: so many bytes are read and laid, and the
+-- rest are those of the digits to come (proofs/Pairs.antt). The measure is the room that is left. Assumes nothing.
 use borrow.Author.Needs.{needs}
 use Prim.Native.Nat.{ℕ, _+_, _*_, _-_, _<_, _≤_}
 use mathlib.Core.Path.{_≡_, _∙_, ap}

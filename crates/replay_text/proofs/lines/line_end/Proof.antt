@@ -2,13 +2,10 @@
 -- the place come to as from the first. The measure is what is left of the text. Assumes nothing.
 use borrow.Author.Needs.{needs}
 use Prim.Native.Nat.{_-_}
-use mathlib.Core.Path.{_≡_, sym, _∙_, ap}
-use mathlib.Core.Bool.{Bool, true, false, not}
+use mathlib.Core.Path.{_≡_, sym, _∙_}
 use native.Mathlib.Omega.{arith}
 use borrow.Author.Tests.{eq-eqb, ne-eqb}
 use denote.Ref.{now}
-use lib.Dec.{eqb}
-use lib.ListN.{getD}
 use Rattle.replay_text.specs.Chars.{inLine}
 use Rattle.replay_text.specs.Lines.{lineEnd}
 use Rattle.replay_text.proofs.Walks.{past-more, past-here, past-over, past-from, past-within}
@@ -55,7 +52,8 @@ returns-2 : tie.Need-returns-2 Inv-loop μ-loop
 returns-2 c =
     let l = c .before .before .before in
     let a = l .before .before .before .args in
-    let e = l .loop .inv ∙ past-here inLine (now (a .text)) (l .loop .end) (omega arith) (rw (eq-eqb _ _ (c .if1 .taken))) in
+    let h = past-here inLine (now (a .text)) (l .loop .end) (omega arith) (rw (eq-eqb _ _ (c .if1 .taken))) in
+    let e = l .loop .inv ∙ h in
     let f = past-from inLine (now (a .text)) (a .from) in
     let w = past-within inLine (now (a .text)) (a .from) in
     (omega arith, omega arith, sym e)

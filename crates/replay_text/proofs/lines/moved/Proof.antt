@@ -1,13 +1,12 @@
--- `replay_text::lines::moved` meets its contract. The loop's invariant: the first `to` characters of the part stand at the
--- start, and the rest of the text is as it was; none is moved to a place past its own. The measure is what is left of
--- the part. Assumes nothing.
+-- `replay_text::lines::moved` meets its contract. The loop's invariant: the first `to` characters of the part stand at
+-- the start, and the rest of the text is as it was; none is moved to a place past its own. The measure is what is left
+-- of the part. Assumes nothing.
 use borrow.Author.Needs.{needs}
-use Prim.Native.Nat.{ℕ, _+_, _-_, _<_, _≤_, min}
-use mathlib.Core.Path.{_≡_, refl, sym, _∙_, ap}
-use mathlib.Core.List.{List, append-nil}
+use Prim.Native.Nat.{_+_, _-_, _<_, _≤_, min}
+use mathlib.Core.Path.{_≡_, refl, _∙_}
 use native.Mathlib.Omega.{arith}
 use denote.Ref.{now}
-use lib.ListN.{length, length-set, length-take, getD, set}
+use lib.ListN.{length}
 use lib.Seq.{take-all}
 use Rattle.replay_text.specs.Chars.{laidFirst}
 use Rattle.replay_text.specs.Lines.{part}

@@ -1,9 +1,8 @@
--- `replay_text::lines::past_last` meets its contract. The loop's invariant: the last newline stands among the characters
--- before the place come to. The measure is that place. Assumes nothing.
+-- `replay_text::lines::past_last` meets its contract. The loop's invariant: the last newline stands among the
+-- characters before the place come to. The measure is that place. Assumes nothing.
 use borrow.Author.Needs.{needs}
-use Prim.Native.Nat.{ℕ, _≤_}
-use mathlib.Core.Path.{_≡_, sym, _∙_, ap}
-use mathlib.Core.List.{List}
+use Prim.Native.Nat.{_≤_}
+use mathlib.Core.Path.{_≡_, sym, _∙_}
 use native.Mathlib.Omega.{arith}
 use denote.Ref.{now}
 use lib.ListN.{length, take}

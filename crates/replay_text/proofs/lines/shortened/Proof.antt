@@ -1,7 +1,6 @@
 -- `replay_text::lines::shortened` meets its contract: its tests are those of the definition. Assumes nothing.
 use borrow.Author.Needs.{needs}
 use mathlib.Core.Path.{_≡_, sym, _∙_}
-use native.Mathlib.Omega.{arith}
 use borrow.Author.Tests.{lt-ltb, le-ltb, le-leb, lt-leb}
 use denote.Ref.{now}
 use lib.ListN.{length, take, length-take}

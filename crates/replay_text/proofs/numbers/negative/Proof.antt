@@ -1,5 +1,5 @@
--- `replay_text::numbers::negative` meets its contract: a number up to 32767 has its negation among the signed numbers of
--- 16 bits, and the lesser of it and 32768 is it. Assumes nothing.
+-- `replay_text::numbers::negative` meets its contract: a number up to 32767 has its negation among the signed numbers
+-- of 16 bits, and the lesser of it and 32768 is it. Assumes nothing.
 use borrow.Author.Needs.{needs}
 use Prim.Native.Nat.{ℕ, zero, suc, _<_, min}
 use mathlib.Core.Path.{_≡_}

@@ -1,4 +1,5 @@
--- `replay_text::numbers::only_up_to` meets its contract: the number, and whether the line ends after it. Assumes nothing.
+-- `replay_text::numbers::only_up_to` meets its contract: the number, and whether the line ends after it. Assumes
+-- nothing.
 use borrow.Author.Needs.{needs}
 use Rattle.replay_text.specs.Numbers.{onlyIn}
 use Rattle.replay_text.proofs.numbers.only_up_to.Statement.{statement}

@@ -2,9 +2,9 @@
 -- place come to. The measure is how much is left of it. Assumes nothing.
 use borrow.Author.Needs.{needs}
 use Prim.Native.Nat.{ℕ, _+_, _-_, _<_, _≤_}
-use mathlib.Core.Path.{_≡_, refl, sym, _∙_}
+use mathlib.Core.Path.{_≡_, sym, _∙_}
 use mathlib.Core.List.{List}
-use mathlib.Core.Bool.{true, false}
+use mathlib.Core.Bool.{false}
 use native.Mathlib.Numerals.{add-one}
 use native.Mathlib.Omega.{arith}
 use borrow.Author.Tests.{eq-eqb, ne-eqb}
@@ -67,7 +67,8 @@ loop-again c =
     let l = c .before .before .before .before .before in
     let a = l .before .before .args in
     let m = word-more (now (a .text)) (l .loop .at) (now (a .s)) (l .loop .i) (omega arith) in
-    l .loop .inv ∙ m (sym (c .before .before .before .byte-at .ensures) ∙ c .before .if1 .left) ∙ rw (c .after .ensures)
+    let e = sym (c .before .before .before .byte-at .ensures) ∙ c .before .if1 .left in
+    l .loop .inv ∙ m e ∙ rw (c .after .ensures)
 
 word-end-requires : tie.Need-word-end-requires Inv-loop μ-loop
 word-end-requires c κs = search needs
@@ -76,7 +77,8 @@ returns-2 : tie.Need-returns-2 Inv-loop μ-loop
 returns-2 c =
     let l = c .before .before in
     let a = l .before .before .args in
-    sym (l .loop .inv ∙ rw (word-all (now (a .text)) (l .loop .at) (now (a .s)) (l .loop .i) (omega arith), c .word-end .ensures))
+    let e = word-all (now (a .text)) (l .loop .at) (now (a .s)) (l .loop .i) (omega arith) in
+    sym (l .loop .inv ∙ rw (e, c .word-end .ensures))
 
 pub is-word-spec : {M : Type 1} → statement M
 is-word-spec =

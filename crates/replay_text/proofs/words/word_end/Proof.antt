@@ -2,12 +2,10 @@
 -- the place come to as from the first. The measure is what is left of the text. Assumes nothing.
 use borrow.Author.Needs.{needs}
 use Prim.Native.Nat.{_-_}
-use mathlib.Core.Path.{_≡_, sym, _∙_, ap}
-use mathlib.Core.Bool.{Bool, true, false, not, _||_}
+use mathlib.Core.Path.{_≡_, sym, _∙_}
+use mathlib.Core.Bool.{true, false}
 use native.Mathlib.Omega.{arith}
-use borrow.Author.Tests.{not-true, not-false}
 use denote.Ref.{now}
-use lib.Dec.{eqb}
 use lib.ListN.{getD}
 use Rattle.replay_text.specs.Words.{inWord, wordEnd}
 use Rattle.replay_text.proofs.Walks.{past-more, past-here, past-over}
