@@ -5,3 +5,4 @@ pub mod RestLent
 pub mod TenNumbers
 pub mod Entries
 pub mod Looked
+pub mod WorkedRows

@@ -3,6 +3,7 @@ use Prim.Native.Nat.{ℕ, suc, _+_, _-_, _≤_, _<_, min}
 use mathlib.Core.Path.{_≡_, refl, sym, _∙_, ap}
 use mathlib.Core.List.{List, [], _∷_, _++_}
 use mathlib.Core.Bool.{Bool, true, false}
+use native.Mathlib.Nat.{add-comm}
 use native.Mathlib.Numerals.{add-one}
 use native.Mathlib.Omega.{arith}
 use borrow.Author.Tests.{lt-ltb, ne-eqb, leb-true, leb-false}
@@ -74,7 +75,7 @@ module _ (old : List ℕ) (from n k : ℕ) (h : from + k < min n (length old)) w
       ∙ (getD-drop k old from 0
       ∙ sym
       (getD-drop from (take n old) k 0
-      ∙ (getD-take n old (from + k) 0 (omega arith) ∙ rw (native.Mathlib.Nat.add-comm from k)))))
+      ∙ (getD-take n old (from + k) 0 (omega arith) ∙ rw (add-comm from k)))))
 
   -- one character more
   pub moving-more : set (moving old (part old from n) k) k (getD (moving old (part old from n) k) (from + k) 0)

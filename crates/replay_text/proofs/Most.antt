@@ -1,6 +1,6 @@
 -- A number that is read as one up to a bound is not above it. Assumes nothing.
 use Prim.Native.Nat.{ℕ, _≤_}
-use mathlib.Core.Path.{_≡_}
+use mathlib.Core.Path.{_≡_, refl}
 use mathlib.Core.List.{List}
 use mathlib.Core.Bool.{Bool, true, false, _&&_, false≢true}
 use native.Mathlib.Omega.{arith}
@@ -22,7 +22,7 @@ unfolding upToIn
 up-to-most text from most e = most-of (numberIn text (nextWord text from)) most (nextWord text from .to) e
 
 and-left : (a b : Bool) → (a && b) ≡ true → a ≡ true
-and-left true b e = mathlib.Core.Path.refl
+and-left true b e = refl
 and-left false b e = e
 
 pub only-most : (text : List ℕ) (from most : ℕ) → onlyIn text from most .good ≡ true

@@ -2,7 +2,7 @@
 -- and the rest are those from the place come to (proofs/Entries.antt). The measure is the entries that are left.
 -- Assumes nothing.
 use borrow.Author.Needs.{needs}
-use Prim.Native.Nat.{ℕ, _-_}
+use Prim.Native.Nat.{_-_}
 use mathlib.Core.Path.{_≡_, sym, _∙_}
 use mathlib.Core.Bool.{true, false, false≢true}
 use mathlib.Core.Logic.{⊎-elim}
@@ -71,7 +71,7 @@ loop-again c =
     let f = c .before .before .before .before in
     let e : isEnd t at ≡ false = sym (f .before .is-end .ensures) ∙ f .if1 .left in
     let g : signedIn t at .good ≡ true
-      = rw (← r .ensures) (not-false (r .result .good) (c .before .if2 .left)) in
+    = rw (← r .ensures) (not-false (r .result .good) (c .before .if2 .left)) in
     rw (toZ-ofZ (record { sfits = c .struct-told .given .1 .0 .1 }), r .ensures)
     (stored-more _ _ _ _ (l .loop .inv) (omega arith) e g)
 
@@ -86,9 +86,9 @@ returns-2 c =
     let r = c .before .is-end2 in
     let e : isEnd t (l .loop .at) ≡ false = sym (r .ensures) ∙ not-true (r .result) (c .if3 .taken) in
     let n : temperaturesIn t (a .past) ≡ none
-      = ⊎-elim (λ w. stored-over _ _ _ _ (l .loop .inv) (omega arith) e)
-        (λ w. absurd (false≢true (sym e ∙ (sym (w .1 .ensures) ∙ w .2 .taken))))
-        (c .before .before .loop-test .came) in
+    = ⊎-elim (λ w. stored-over _ _ _ _ (l .loop .inv) (omega arith) e)
+    (λ w. absurd (false≢true (sym e ∙ (sym (w .1 .ensures) ∙ w .2 .taken))))
+    (c .before .before .loop-test .came) in
     (rw n, rw n)
 
 returns-3 : tie.Need-returns-3 Inv-loop μ-loop

@@ -2,7 +2,7 @@
 -- the rest are those from the place come to (proofs/Entries.antt). The measure is the entries that are left. Assumes
 -- nothing.
 use borrow.Author.Needs.{needs}
-use Prim.Native.Nat.{ℕ, _-_}
+use Prim.Native.Nat.{_-_}
 use mathlib.Core.Path.{_≡_, sym, _∙_}
 use mathlib.Core.Bool.{true, false, false≢true}
 use mathlib.Core.Logic.{⊎-elim}
@@ -73,10 +73,10 @@ loop-again c =
     let f = c .before .before .before .before in
     let e : isEnd t at ≡ false = sym (f .before .is-end .ensures) ∙ f .if1 .left in
     let g : upToIn t at 65535 .good ≡ true
-      = rw (← r .ensures) (not-false (r .result .good) (c .before .if2 .left)) in
+    = rw (← r .ensures) (not-false (r .result .good) (c .before .if2 .left)) in
     let m = up-to-most t at 65535 g in
     let w : c .wide .result ≡ upToIn t at 65535 .value
-      = c .wide .ensures ∙ rw (r .ensures, le-leb (upToIn t at 65535 .value) 65535 m) in
+    = c .wide .ensures ∙ rw (r .ensures, le-leb (upToIn t at 65535 .value) 65535 m) in
     rw (w, r .ensures) (stored-more _ _ _ _ (l .loop .inv) (omega arith) e g)
 
 is-end-requires-2 : tie.Need-is-end-requires-2 Inv-loop μ-loop
@@ -90,9 +90,9 @@ returns-2 c =
     let r = c .before .is-end2 in
     let e : isEnd t (l .loop .at) ≡ false = sym (r .ensures) ∙ not-true (r .result) (c .if3 .taken) in
     let n : voltagesIn t (a .past) ≡ none
-      = ⊎-elim (λ w. stored-over _ _ _ _ (l .loop .inv) (omega arith) e)
-        (λ w. absurd (false≢true (sym e ∙ (sym (w .1 .ensures) ∙ w .2 .taken))))
-        (c .before .before .loop-test .came) in
+    = ⊎-elim (λ w. stored-over _ _ _ _ (l .loop .inv) (omega arith) e)
+    (λ w. absurd (false≢true (sym e ∙ (sym (w .1 .ensures) ∙ w .2 .taken))))
+    (c .before .before .loop-test .came) in
     (rw n, rw n)
 
 returns-3 : tie.Need-returns-3 Inv-loop μ-loop
