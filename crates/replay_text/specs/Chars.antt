@@ -24,7 +24,8 @@ unfoldable pub leading : (ℕ → Bool) → List ℕ → List ℕ
 leading test [] = []
 leading test (b ∷ l) = cond (test b) (b ∷ leading test l) []
 
--- the first place from one on where a character does not pass a test; the text's end where all do
+-- the first place from one on where a character does not pass a test; the text's end where all do. A place past the
+-- text is itself
 unfoldable pub pastAll : (ℕ → Bool) → List ℕ → ℕ → ℕ
 pastAll test text at = at + length (leading test (drop at text))
 

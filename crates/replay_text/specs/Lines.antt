@@ -1,6 +1,6 @@
 -- The lines of the text, and what is held of one that the input has not ended yet. A line may have 4,096 characters; a
 -- longer one is unreadable (docs/REPLAY.md, "Input").
-use Prim.Native.Nat.{ℕ, suc}
+use Prim.Native.Nat.{ℕ, suc, _+_}
 use mathlib.Core.Bool.{cond, _&&_}
 use mathlib.Core.List.{List, [], _∷_}
 use lib.Dec.{ltb, leb, eqb}
@@ -27,10 +27,10 @@ part text from n = drop from (take n text)
 
 -- how many are kept of the n characters of a line that is not ended: one more than a line may have is enough
 unfoldable pub keptOf : ℕ → ℕ
-keptOf n = cond (leb n longest) n 4097
+keptOf n = cond (leb n longest) n (longest + 1)
 
--- of a line that is too long it matters only whether it is blank or a comment: where all of the characters that a line
--- may have are gaps, and there is one among the n that is none, that one stands past them
+-- of a line that is too long it matters only whether it is blank or a comment: where all that are kept are gaps, and
+-- there is one among the n that is none, the first such takes the place of the last that is kept
 unfoldable pub shortenedOf : List ℕ → ℕ → List ℕ
 shortenedOf text n =
     cond (ltb longest n && (ltb longest (pastGaps text 0) && ltb (pastGaps text 0) (length (take n text))))
