@@ -16,7 +16,9 @@ use Rattle.settings.specs.Write.{writtenOf}
 use Rattle.settings.specs.declared.Settings.{Settings}
 use Rattle.settings.specs.declared.Written.{Written}
 use Rattle.replay_host.specs.Calls.{bufferWritten, WriteLent}
-use Rattle.replay_host.specs.Host.{Keeps, Outcome, keepsOf, Comes, only, first, entered, isNone, startDone, settingsDone, answerDone, frameFor, frameDone, writtenDone, writeFor, writeDone, writeBuffer, absentFor, absentDone}
+use Rattle.replay_host.specs.Host.{Keeps, Outcome, keepsOf, Comes, only, first, entered, isNone, startDone}
+use Rattle.replay_host.specs.Host.{settingsDone, answerDone, frameFor, frameDone, writtenDone, writeFor}
+use Rattle.replay_host.specs.Host.{writeDone, writeBuffer, absentFor, absentDone}
 use Rattle.replay_host.specs.declared.held.Held.the-variants.{None, Of}
 use Rattle.replay_host.specs.declared.held.Held.{Held}
 use Rattle.replay_host.specs.declared.held.Kept.{Kept}

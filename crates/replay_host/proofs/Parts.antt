@@ -49,7 +49,8 @@ module _ {A : Type 0} where
       let h : length old ≤ n = ltb-false n (length old) e in
       let p : part ++ drop (length old) old ≡ part =
       ap (λ (t : List A). part ++ t) (drop-length old) ∙ append-nil part in
-      (ap (take n) p ∙ take-all n part (omega arith), ap (drop n) p ∙ (drop-past n part (omega arith) ∙ sym (drop-past n old h)))
+      let d : drop n part ≡ drop n old = drop-past n part (omega arith) ∙ sym (drop-past n old h) in
+      (ap (take n) p ∙ take-all n part (omega arith), ap (drop n) p ∙ d)
 
   pub whole : (n k : ℕ) (old part : List A) → k ≤ length old → k ≡ leastOf n (length old)
       → length part ≡ length (take (k - 0) old)
@@ -60,9 +61,9 @@ module _ {A : Type 0} where
       rw z (whole-chosen n old part (ltb n (length old)) refl (l ∙ (t ∙ z)))
 
 -- a write, said of the whole buffer
-pub write-lent : (x : Settings) (n k : ℕ) (old part : List ℕ) (w : Written) → (k ≤ length old) × (k ≡ leastOf n (length old))
-    → length part ≡ length (take (k - 0) old) → Wrote x (take (k - 0) old) part w
-    → WriteLent x n old (part ++ drop (k - 0) old) w
+pub write-lent : (x : Settings) (n k : ℕ) (old part : List ℕ) (w : Written)
+    → (k ≤ length old) × (k ≡ leastOf n (length old)) → length part ≡ length (take (k - 0) old)
+    → Wrote x (take (k - 0) old) part w → WriteLent x n old (part ++ drop (k - 0) old) w
 write-lent x n k old part w e l h =
     let a = whole n k old part (e .0) (e .1) l in
     record { wrote = rw (a .0, ← take-least n k old (e .1)) h; rest = a .1 }

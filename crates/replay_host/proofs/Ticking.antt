@@ -64,8 +64,8 @@ module _ (l : Lent) (v : List ℕ) (t : List ℤ) where
       (rw (← a .0, ← a .1) (rw (b .0)), rw (← a .0, ← a .1) (b .1))
 
   -- the ticks that are left come to what all of them come to
-  pub record Going (n : ℕ) (old : List ℕ) (x : Keeps) (from : Output) (left : ℕ) (buf : List ℕ) (y : Keeps) (at : Output)
-      : Type 0 where
+  pub record Going (n : ℕ) (old : List ℕ) (x : Keeps) (from : Output)
+      (left : ℕ) (buf : List ℕ) (y : Keeps) (at : Output) : Type 0 where
     pub kept : ticksDone l v t left buf y .kept ≡ ticksDone l v t n old x .kept
     pub printed : laidOf (ticksDone l v t left buf y .text) at ≡ laidOf (ticksDone l v t n old x .text) from
     pub buffer : ticksBuffer l v t left buf y ≡ ticksBuffer l v t n old x

@@ -25,7 +25,8 @@ leastOf a b = cond (ltb a b) a b
 -- a tick that is lent the first so many voltages, temperatures and bytes
 pub record TickLent (c : Controller) (l : Lent) (v : List ℕ) (t : List ℤ) (old new : List ℕ) (k : Ticked) : Type 0
   where
-    pub ticked : TickIs c (l .readings) (take (l .volts) v) (take (l .temps) t) (take (l .room) old) (take (l .room) new) k
+    pub ticked :
+        TickIs c (l .readings) (take (l .volts) v) (take (l .temps) t) (take (l .room) old) (take (l .room) new) k
     pub rest : drop (l .room) new ≡ drop (l .room) old
 
 -- a write that is lent the first n bytes
@@ -37,14 +38,17 @@ pub record WriteLent (x : Settings) (n : ℕ) (old new : List ℕ) (w : Written)
 abbrev pub wholeAfter : ℕ → List ℕ → List ℕ → List ℕ
 wholeAfter n later old = later ++ drop n old
 
--- what a tick answers that is lent the first so many of each
+-- what `TickIs` says of a tick that is lent the first so many of each, as values
 module _ (c : Controller) (l : Lent) (v : List ℕ) (t : List ℤ) (old : List ℕ) where
+  -- it is accepted
   unfoldable pub tickAccepted : Bool
   tickAccepted = accepted c (l .readings) (take (l .volts) v) (take (l .temps) t) (length (take (l .room) old))
 
+  -- the frames that it sends where it is
   unfoldable pub tickSent : List Frame
   tickSent = tickFrames c (l .readings) (take (l .volts) v) (take (l .temps) t)
 
+  -- its answer: the number, the bytes written, the next controller
   unfoldable pub tickAnswer : Ticked
   tickAnswer =
       record {
@@ -53,7 +57,7 @@ module _ (c : Controller) (l : Lent) (v : List ℕ) (t : List ℤ) (old : List �
         controller = cond tickAccepted (tickNext c (l .readings) (take (l .volts) v) (take (l .temps) t)) c;
       }
 
-  -- and the whole buffer after it
+  -- the whole buffer after it: the frames' records from its start and the rest unchanged, or all of it unchanged
   unfoldable pub bufferTicked : List ℕ
   bufferTicked =
       wholeAfter (l .room)

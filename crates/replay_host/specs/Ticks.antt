@@ -23,7 +23,8 @@ nextNumber n = cond (ltb n 0xffff_ffff_ffff_ffff) (n + 1) n
 unfoldable pub tickedDone : Keeps → Ticked → List ℕ → Outcome
 tickedDone x k buf =
     cond (eqb (k .number) 0)
-    (first (sentText (x .accepted) (take (k .bytes) buf)) (entered (x .held) (k .controller) (nextNumber (x .accepted))))
+    (first (sentText (x .accepted) (take (k .bytes) buf))
+    (entered (x .held) (k .controller) (nextNumber (x .accepted))))
     (first (tickLine (k .number)) (entered (x .held) (k .controller) (x .accepted)))
 
 module _ (l : Lent) (v : List ℕ) (t : List ℤ) where

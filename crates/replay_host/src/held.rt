@@ -116,7 +116,8 @@ impl Kept {
 
     // A settings record of the first n bytes: a fresh controller, or the one in use stays.
     pub fn settings(self, bytes: &Bytes, n: usize, o: &mut Out) -> Kept
-        ensures { λ r. ⌜ Comes (now (o .entry)) (self .out) (now (o .exit)) r (settingsDone (take n (now (bytes .entry))) (keepsOf self)) ⌝ }
+        ensures { λ r. ⌜ Comes (now (o .entry)) (self .out) (now (o .exit)) r
+            (settingsDone (take n (now (bytes .entry))) (keepsOf self)) ⌝ }
     {
         match calls::read(bytes, n) {
             Start::Made(c) => {
@@ -138,7 +139,8 @@ impl Kept {
 
     // A frame whose data are the first n bytes.
     pub fn frame(self, id: u32, bytes: &Bytes, n: usize, o: &mut Out) -> Kept
-        ensures { λ r. ⌜ Comes (now (o .entry)) (self .out) (now (o .exit)) r (frameDone id (take n (now (bytes .entry))) (keepsOf self)) ⌝ }
+        ensures { λ r. ⌜ Comes (now (o .entry)) (self .out) (now (o .exit)) r
+            (frameDone id (take n (now (bytes .entry))) (keepsOf self)) ⌝ }
     {
         let held = self.held;
         match held {
@@ -149,14 +151,16 @@ impl Kept {
 
     // What a write was answered, and what it wrote.
     fn written(self, x: Written, buf: &Buffer, o: &mut Out) -> Kept
-        ensures { λ r. ⌜ Comes (now (o .entry)) (self .out) (now (o .exit)) r (writtenDone (keepsOf self) x (now (buf .entry))) ⌝ }
+        ensures { λ r. ⌜ Comes (now (o .entry)) (self .out) (now (o .exit)) r
+            (writtenDone (keepsOf self) x (now (buf .entry))) ⌝ }
     {
         self.at(answers::write(o, self.out, x.number, x.bytes, buf))
     }
 
     // The settings in use written into the first n bytes.
     pub fn write(self, n: usize, buf: &mut Buffer, o: &mut Out) -> Kept
-        ensures { λ r. ⌜ Comes (now (o .entry)) (self .out) (now (o .exit)) r (writeDone n (now (buf .entry)) (keepsOf self)) ⌝ }
+        ensures { λ r. ⌜ Comes (now (o .entry)) (self .out) (now (o .exit)) r
+            (writeDone n (now (buf .entry)) (keepsOf self)) ⌝ }
         ensures { λ r. ⌜ now (buf .exit) ≡ writeBuffer n (now (buf .entry)) (self .held) ⌝ }
     {
         let held = self.held;

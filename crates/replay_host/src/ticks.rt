@@ -23,7 +23,8 @@ pub fn next(n: u64) -> u64
 impl Kept {
     // What a tick was answered and sent. Only one that is accepted counts.
     fn ticked(self, x: Ticked, buf: &Buffer, o: &mut Out) -> Kept
-        ensures { λ r. ⌜ Comes (now (o .entry)) (self .out) (now (o .exit)) r (tickedDone (keepsOf self) x (now (buf .entry))) ⌝ }
+        ensures { λ r. ⌜ Comes (now (o .entry)) (self .out) (now (o .exit)) r
+            (tickedDone (keepsOf self) x (now (buf .entry))) ⌝ }
     {
         let later = x.controller;
         let count = self.accepted;
@@ -37,8 +38,10 @@ impl Kept {
 
     // One tick; none where there is no controller.
     fn tick(self, l: Lent, v: &Voltages, t: &Temperatures, buf: &mut Buffer, o: &mut Out) -> Kept
-        ensures { λ r. ⌜ Comes (now (o .entry)) (self .out) (now (o .exit)) r (tickDone l (now (v .entry)) (now (t .entry)) (now (buf .entry)) (keepsOf self)) ⌝ }
-        ensures { λ r. ⌜ now (buf .exit) ≡ tickBuffer l (now (v .entry)) (now (t .entry)) (now (buf .entry)) (self .held) ⌝ }
+        ensures { λ r. ⌜ Comes (now (o .entry)) (self .out) (now (o .exit)) r
+            (tickDone l (now (v .entry)) (now (t .entry)) (now (buf .entry)) (keepsOf self)) ⌝ }
+        ensures { λ r. ⌜ now (buf .exit)
+            ≡ tickBuffer l (now (v .entry)) (now (t .entry)) (now (buf .entry)) (self .held) ⌝ }
     {
         let held = self.held;
         match held {
@@ -57,8 +60,10 @@ impl Kept {
         buf: &mut Buffer,
         o: &mut Out,
     ) -> Kept
-        ensures { λ r. ⌜ Comes (now (o .entry)) (self .out) (now (o .exit)) r (ticksDone l (now (v .entry)) (now (t .entry)) n (now (buf .entry)) (keepsOf self)) ⌝ }
-        ensures { λ r. ⌜ now (buf .exit) ≡ ticksBuffer l (now (v .entry)) (now (t .entry)) n (now (buf .entry)) (keepsOf self) ⌝ }
+        ensures { λ r. ⌜ Comes (now (o .entry)) (self .out) (now (o .exit)) r
+            (ticksDone l (now (v .entry)) (now (t .entry)) n (now (buf .entry)) (keepsOf self)) ⌝ }
+        ensures { λ r. ⌜ now (buf .exit)
+            ≡ ticksBuffer l (now (v .entry)) (now (t .entry)) n (now (buf .entry)) (keepsOf self) ⌝ }
     {
         let mut k = self;
         let mut left = n;
