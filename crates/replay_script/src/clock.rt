@@ -1,4 +1,6 @@
 // The clock of a candump log: which ticks are due before a line of it.
+ghost use mathlib.Core.Path.{_≡_};
+ghost use Rattle.replay_script.specs.Clocks.{timeIn, unsetClock, dueOf};
 use replay_text::Text;
 use replay_text::after;
 use replay_text::byte_at;
@@ -27,17 +29,10 @@ pub enum Due {
     TooMany,
 }
 
-fn microseconds(s: u64, u: u64) -> u64 {
-    if s < 1_000_000_000_000 {
-        if u < 1_000_000 {
-            return s * 1_000_000 + u;
-        }
-    }
-    0
-}
-
 // (SECONDS.MICROS), 1 to 12 digits and six.
-pub fn read_time(text: &Text, w: Word) -> Time {
+pub fn read_time(text: &Text, w: Word) -> Time
+    ensures { λ r. ⌜ r ≡ timeIn (now (text .entry)) w ⌝ }
+{
     let s = digits::read_digits(text, after(w.from), 10);
     let u = digits::read_digits(text, after(s.at), 10);
     let opens = byte_at(text, w.from) == b'(';
@@ -46,14 +41,16 @@ pub fn read_time(text: &Text, w: Word) -> Time {
     let ends = after(u.at) == w.to;
     let seconds = (1 <= s.count) & (s.count <= 12);
     if opens & (dot & (closes & (ends & (seconds & (u.count == 6))))) {
-        Time::At(microseconds(s.value, u.value))
+        Time::At(s.value * 1_000_000 + u.value)
     } else {
         Time::Not
     }
 }
 
 impl Clock {
-    pub fn start() -> Clock {
+    pub fn start() -> Clock
+        ensures { λ r. ⌜ r ≡ unsetClock ⌝ }
+    {
         Clock {
             set: false,
             zero: 0,
@@ -62,7 +59,9 @@ impl Clock {
     }
 
     // As many ticks as there are whole 50 ms from time zero, less those already run.
-    pub fn due(self, now: u64) -> Due {
+    pub fn due(self, now: u64) -> Due
+        ensures { λ r. ⌜ r ≡ dueOf self now ⌝ }
+    {
         let mut next = self;
         if !self.set {
             next.set = true;

@@ -1,4 +1,8 @@
 // The lines of received frames.
+ghost use mathlib.Core.Path.{_≡_};
+ghost use Rattle.replay_script.specs.Frames.{identifierIn, dataIn, receivedIn, frameAtOf, frameIn, frameBytes, loggedIn, loggedBytes};
+ghost use Rattle.replay_text.specs.Chars.{laidFirst};
+ghost use Rattle.replay_text.specs.Hex.{bytesIn};
 use crate::Asked;
 use crate::clock;
 use crate::clock::Time;
@@ -26,13 +30,13 @@ enum Received {
     Not,
 }
 
-fn read_identifier(text: &Text, from: usize) -> Identifier {
+fn read_identifier(text: &Text, from: usize) -> Identifier
+    ensures { λ r. ⌜ r ≡ identifierIn (now (text .entry)) from ⌝ }
+{
     let d = digits::read_digits(text, from, 16);
     let id = d.value;
-    if (d.count < 1) | (8 < d.count) | (byte_at(text, d.at) != b'#') {
-        return Identifier::Not;
-    }
-    if id <= 0xffff_ffff {
+    let digits = (1 <= d.count) & (d.count <= 8);
+    if digits & (byte_at(text, d.at) == b'#') {
         Identifier::Of(id as u32, after(d.at))
     } else {
         Identifier::Not
@@ -40,7 +44,10 @@ fn read_identifier(text: &Text, from: usize) -> Identifier {
 }
 
 // The data from a place on, to the end of the line.
-fn read_data(id: u32, text: &Text, from: usize, bytes: &mut Bytes) -> Received {
+fn read_data(id: u32, text: &Text, from: usize, bytes: &mut Bytes) -> Received
+    ensures answer { λ r. ⌜ r ≡ dataIn (now (text .entry)) id from ⌝ }
+    ensures later { λ r. ⌜ now (bytes .exit) ≡ laidFirst (bytesIn (now (text .entry)) from) (now (bytes .entry)) ⌝ }
+{
     match hex::read_bytes(text, from, bytes) {
         Hex::Bytes(n, at) => {
             if (n <= MOST) & words::is_end(text, at) {
@@ -54,7 +61,10 @@ fn read_data(id: u32, text: &Text, from: usize, bytes: &mut Bytes) -> Received {
 }
 
 // ID#DATA, the last word of its line.
-fn read_frame(text: &Text, from: usize, bytes: &mut Bytes) -> Received {
+fn read_frame(text: &Text, from: usize, bytes: &mut Bytes) -> Received
+    ensures answer { λ r. ⌜ r ≡ receivedIn (now (text .entry)) from ⌝ }
+    ensures later { λ r. ⌜ now (bytes .exit) ≡ frameBytes (now (text .entry)) from (now (bytes .entry)) ⌝ }
+{
     match read_identifier(text, from) {
         Identifier::Of(id, at) => read_data(id, text, at, bytes),
         Identifier::Not => Received::Not,
@@ -62,7 +72,10 @@ fn read_frame(text: &Text, from: usize, bytes: &mut Bytes) -> Received {
 }
 
 // ID#DATA from a place on.
-pub fn frame(text: &Text, from: usize, bytes: &mut Bytes) -> Asked {
+pub fn frame(text: &Text, from: usize, bytes: &mut Bytes) -> Asked
+    ensures answer { λ r. ⌜ r ≡ frameIn (now (text .entry)) from ⌝ }
+    ensures later { λ r. ⌜ now (bytes .exit) ≡ frameBytes (now (text .entry)) from (now (bytes .entry)) ⌝ }
+{
     match read_frame(text, from, bytes) {
         Received::Frame(id, n) => Asked::Frame(id, n),
         Received::Not => Asked::Unreadable,
@@ -70,20 +83,26 @@ pub fn frame(text: &Text, from: usize, bytes: &mut Bytes) -> Asked {
 }
 
 // ID#DATA, which came at a time.
-fn frame_at(now: u64, text: &Text, from: usize, bytes: &mut Bytes) -> Asked {
+fn frame_at(time: u64, text: &Text, from: usize, bytes: &mut Bytes) -> Asked
+    ensures answer { λ r. ⌜ r ≡ frameAtOf time (receivedIn (now (text .entry)) from) ⌝ }
+    ensures later { λ r. ⌜ now (bytes .exit) ≡ frameBytes (now (text .entry)) from (now (bytes .entry)) ⌝ }
+{
     match read_frame(text, from, bytes) {
-        Received::Frame(id, n) => Asked::Logged(now, id, n),
+        Received::Frame(id, n) => Asked::Logged(time, id, n),
         Received::Not => Asked::Unreadable,
     }
 }
 
 // (SECONDS.MICROS) IFACE ID#DATA from a place on.
-pub fn logged(text: &Text, from: usize, bytes: &mut Bytes) -> Asked {
+pub fn logged(text: &Text, from: usize, bytes: &mut Bytes) -> Asked
+    ensures answer { λ r. ⌜ r ≡ loggedIn (now (text .entry)) from ⌝ }
+    ensures later { λ r. ⌜ now (bytes .exit) ≡ loggedBytes (now (text .entry)) from (now (bytes .entry)) ⌝ }
+{
     let stamp = words::next_word(text, from);
     let face = words::next_word(text, stamp.to);
     let at = words::past_gaps(text, face.to);
     match clock::read_time(text, stamp) {
-        Time::At(now) => frame_at(now, text, at, bytes),
+        Time::At(time) => frame_at(time, text, at, bytes),
         Time::Not => Asked::Unreadable,
     }
 }

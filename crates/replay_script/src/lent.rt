@@ -1,5 +1,7 @@
 // What each tick is lent: the readings, and the first so many of two tables and of a buffer. Lines of the script set
 // it.
+ghost use mathlib.Core.Path.{_≡_};
+ghost use Rattle.replay_script.specs.Lent.{firstReadings, firstLent, firstVoltages, firstTemperatures, lentAfter};
 use crate::Asked;
 use readings::Marks;
 use readings::Readings;
@@ -19,7 +21,9 @@ pub struct Lent {
 }
 
 // `1 192 50 0 3000 1000 0 0 0 0`.
-fn first_readings() -> Readings {
+fn first_readings() -> Readings
+    ensures { λ r. ⌜ r ≡ firstReadings ⌝ }
+{
     Readings {
         one: 1,
         two: 192,
@@ -40,7 +44,9 @@ fn first_readings() -> Readings {
 
 impl Lent {
     // One voltage, one temperature, a buffer of 117.
-    pub fn start() -> Lent {
+    pub fn start() -> Lent
+        ensures { λ r. ⌜ r ≡ firstLent ⌝ }
+    {
         Lent {
             readings: first_readings(),
             volts: 1,
@@ -50,7 +56,9 @@ impl Lent {
     }
 
     // What ticks are lent after a line: most lines set nothing of it.
-    pub fn after(self, asked: Asked) -> Lent {
+    pub fn after(self, asked: Asked) -> Lent
+        ensures { λ r. ⌜ r ≡ lentAfter self asked ⌝ }
+    {
         let mut l = self;
         match asked {
             Asked::Readings(x) => l.readings = x,
@@ -64,14 +72,18 @@ impl Lent {
 }
 
 // The table of voltages at the start: one cell of 3.30 V.
-pub fn first_voltages() -> Voltages {
+pub fn first_voltages() -> Voltages
+    ensures { λ r. ⌜ r ≡ firstVoltages ⌝ }
+{
     let mut v = [0u16; 512];
     v[0] = 330;
     v
 }
 
 // The table of temperatures at the start: one cell of 70 F.
-pub fn first_temperatures() -> Temperatures {
+pub fn first_temperatures() -> Temperatures
+    ensures { λ r. ⌜ r ≡ firstTemperatures ⌝ }
+{
     let mut t = [0i16; 512];
     t[0] = 70;
     t

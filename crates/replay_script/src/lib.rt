@@ -6,6 +6,9 @@
 // then write N                         the settings in use, into a buffer of N bytes Besides, what each tick is lent,
 // and which ticks are due by a log's clock. This crate may not know any controller, what a call comes to, nor any rule
 // of the paper.
+ghost use mathlib.Core.Path.{_≡_};
+ghost use lib.IntN.{pos};
+ghost use Rattle.replay_script.specs.Lines.{kindIn, asksOf, bytesOf, voltsOf, tempsOf, isLonger, askedIn, bytesAfter, voltsAfter, tempsAfter};
 use lent::Temperatures;
 use lent::Voltages;
 use readings::Readings;
@@ -53,7 +56,9 @@ enum Kind {
 }
 
 // The kind of a line whose first word begins at a place; what no known word begins is a frame.
-fn kind_of(text: &Text, from: usize) -> Kind {
+fn kind_of(text: &Text, from: usize) -> Kind
+    ensures { λ r. ⌜ r ≡ kindIn (now (text .entry)) from ⌝ }
+{
     if words::is_word(text, from, b"settings") {
         return Kind::Settings;
     }
@@ -88,7 +93,15 @@ fn read_words(
     bytes: &mut Bytes,
     v: &mut Voltages,
     t: &mut Temperatures,
-) -> Asked {
+) -> Asked
+    ensures answer { λ r. ⌜ r ≡ asksOf (now (text .entry)) from (kindIn (now (text .entry)) from) ⌝ }
+    ensures bytes { λ r. ⌜ now (bytes .exit)
+        ≡ bytesOf (now (text .entry)) from (now (bytes .entry)) (kindIn (now (text .entry)) from) ⌝ }
+    ensures volts { λ r. ⌜ now (v .exit)
+        ≡ voltsOf (now (text .entry)) from (now (v .entry)) (kindIn (now (text .entry)) from) ⌝ }
+    ensures temps { λ r. ⌜ now (t .exit)
+        ≡ tempsOf (now (text .entry)) from (now (t .entry)) (kindIn (now (text .entry)) from) ⌝ }
+{
     let past = words::word_end(text, from);
     match kind_of(text, from) {
         Kind::Settings => settings::record(text, past, bytes),
@@ -103,6 +116,13 @@ fn read_words(
     }
 }
 
+// Whether a line from a place up to its newline has more characters than a line may have.
+fn longer(at: usize, end: usize) -> bool
+    ensures { λ r. ⌜ r ≡ isLonger at end ⌝ }
+{
+    if at < end { LONGEST < end - at } else { false }
+}
+
 // What the line asks for that begins at a place and has its newline at another. The bytes that it gives are laid into
 // `bytes`, the entries of a table into that table, and nothing is kept of a line that cannot be read. A blank line or a
 // comment is ignored, however long; any other may have 4,096 characters.
@@ -113,16 +133,19 @@ pub fn read_line(
     bytes: &mut Bytes,
     v: &mut Voltages,
     t: &mut Temperatures,
-) -> Asked {
+) -> Asked
+    ensures answer { λ r. ⌜ r ≡ askedIn (now (text .entry)) at end ⌝ }
+    ensures bytes { λ r. ⌜ now (bytes .exit) ≡ bytesAfter (now (text .entry)) at end (now (bytes .entry)) ⌝ }
+    ensures volts { λ r. ⌜ now (v .exit) ≡ voltsAfter (now (text .entry)) at end (now (v .entry)) ⌝ }
+    ensures temps { λ r. ⌜ now (t .exit) ≡ tempsAfter (now (text .entry)) at end (now (t .entry)) ⌝ }
+{
     let from = words::past_gaps(text, at);
     let b = byte_at(text, from);
     if (b == b'\n') | (b == b'#') {
         return Asked::Nothing;
     }
-    if at < end {
-        if LONGEST < end - at {
-            return Asked::Unreadable;
-        }
+    if longer(at, end) {
+        return Asked::Unreadable;
     }
     read_words(text, from, bytes, v, t)
 }

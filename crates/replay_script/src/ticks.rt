@@ -1,4 +1,10 @@
 // The lines that ask for ticks, and those that set what ticks are lent.
+ghost use mathlib.Core.Path.{_≡_};
+ghost use lib.Dec.{leb};
+ghost use lib.IntN.{pos};
+ghost use mathlib.Core.Bool.{cond};
+ghost use Rattle.replay_script.specs.Ticks.{ticksIn, lengthIn, bufferIn, readingsIn};
+ghost use Rattle.replay_script.specs.Tables.{voltagesIn, voltagesOf, temperaturesIn, temperaturesOf, tableOf};
 use crate::Asked;
 use crate::lent::Temperatures;
 use crate::lent::Voltages;
@@ -21,16 +27,22 @@ pub enum Length {
     Not,
 }
 
-fn small(x: u64) -> u8 {
+fn small(x: u64) -> u8
+    ensures { λ r. ⌜ r ≡ cond (leb x 255) x 0 ⌝ }
+{
     if x <= 255 { x as u8 } else { 0 }
 }
 
-fn wide(x: u64) -> u16 {
+fn wide(x: u64) -> u16
+    ensures { λ r. ⌜ r ≡ cond (leb x 65535) x 0 ⌝ }
+{
     if x <= 65535 { x as u16 } else { 0 }
 }
 
 // One tick, or so many.
-pub fn ticks(text: &Text, past: usize) -> Asked {
+pub fn ticks(text: &Text, past: usize) -> Asked
+    ensures { λ r. ⌜ r ≡ ticksIn (now (text .entry)) past ⌝ }
+{
     if words::is_end(text, past) {
         return Asked::Ticks(1);
     }
@@ -43,7 +55,9 @@ pub fn ticks(text: &Text, past: usize) -> Asked {
 }
 
 // The one number of a line as a buffer's length.
-pub fn read_length(text: &Text, past: usize) -> Length {
+pub fn read_length(text: &Text, past: usize) -> Length
+    ensures { λ r. ⌜ r ≡ lengthIn (now (text .entry)) past ⌝ }
+{
     let n = numbers::only_up_to(text, past, MOST_ROOM);
     if n.good {
         Length::Of(wide(n.value) as usize)
@@ -53,7 +67,9 @@ pub fn read_length(text: &Text, past: usize) -> Length {
 }
 
 // The length of a buffer.
-pub fn buffer(text: &Text, past: usize) -> Asked {
+pub fn buffer(text: &Text, past: usize) -> Asked
+    ensures { λ r. ⌜ r ≡ bufferIn (now (text .entry)) past ⌝ }
+{
     match read_length(text, past) {
         Length::Of(n) => Asked::Buffer(n),
         Length::Not => Asked::Unreadable,
@@ -61,7 +77,9 @@ pub fn buffer(text: &Text, past: usize) -> Asked {
 }
 
 // Ten numbers and no more.
-pub fn readings(text: &Text, past: usize) -> Asked {
+pub fn readings(text: &Text, past: usize) -> Asked
+    ensures { λ r. ⌜ r ≡ readingsIn (now (text .entry)) past ⌝ }
+{
     let one = numbers::next_up_to(text, past, 255);
     let two = numbers::next_up_to(text, one.at, 255);
     let soc = numbers::next_up_to(text, two.at, 255);
@@ -96,7 +114,10 @@ pub fn readings(text: &Text, past: usize) -> Asked {
 }
 
 // The numbers to the end of the line, at most 512, as the table of voltages.
-pub fn voltages(text: &Text, past: usize, v: &mut Voltages) -> Asked {
+pub fn voltages(text: &Text, past: usize, v: &mut Voltages) -> Asked
+    ensures answer { λ r. ⌜ r ≡ voltagesOf (voltagesIn (now (text .entry)) past) ⌝ }
+    ensures later { λ r. ⌜ now (v .exit) ≡ tableOf 0 (now (v .entry)) (voltagesIn (now (text .entry)) past) ⌝ }
+{
     let mut table = [0u16; 512];
     let mut at = past;
     let mut n = 0;
@@ -120,7 +141,10 @@ pub fn voltages(text: &Text, past: usize, v: &mut Voltages) -> Asked {
 }
 
 // The numbers to the end of the line, at most 512, as the table of temperatures.
-pub fn temperatures(text: &Text, past: usize, t: &mut Temperatures) -> Asked {
+pub fn temperatures(text: &Text, past: usize, t: &mut Temperatures) -> Asked
+    ensures answer { λ r. ⌜ r ≡ temperaturesOf (temperaturesIn (now (text .entry)) past) ⌝ }
+    ensures later { λ r. ⌜ now (t .exit) ≡ tableOf (pos 0) (now (t .entry)) (temperaturesIn (now (text .entry)) past) ⌝ }
+{
     let mut table = [0i16; 512];
     let mut at = past;
     let mut n = 0;

@@ -1,8 +1,10 @@
--- `replay_text::digits::with_digit` is safe: a value below 2^48, times a base of one byte, and one byte more fit. Assumes nothing.
-use borrow.Author.Needs.{needs}
+-- `replay_text::digits::with_digit` meets its contract: a value below 2^48, times a base of one byte, and one byte more
+-- fit. Assumes nothing.
 use native.Mathlib.Nat.{mul-le-mul}
 use native.Mathlib.Omega.{arith}
+use borrow.Author.Tests.{lt-ltb, le-ltb}
 use Prim.Native.Nat.{ℕ, _*_, _<_, _≤_}
+use Rattle.replay_text.specs.Digits.{withDigit}
 use Rattle.replay_text.proofs.digits.with_digit.Statement.{statement}
 use Rattle.replay_text.proofs.digits.with_digit.Tie as tie
 
@@ -20,10 +22,12 @@ add-result c =
     omega (arith, product (a .value) (a .base) (omega arith) (omega arith))
 
 returns : tie.Need-returns
-returns c = search needs
+unfolding withDigit
+returns c = rw (lt-ltb _ _ (c .if1 .taken))
 
 returns-2 : tie.Need-returns-2
-returns-2 c = search needs
+unfolding withDigit
+returns-2 c = rw (le-ltb _ _ (c .if1 .left))
 
 pub with-digit-spec : {M : Type 1} → statement M
 with-digit-spec = tie.close (tie.spec mul-result add-result returns returns-2)

@@ -1,0 +1,6 @@
+pub mod Chars
+pub mod Words
+pub mod Digits
+pub mod Numbers
+pub mod Hex
+pub mod Lines
