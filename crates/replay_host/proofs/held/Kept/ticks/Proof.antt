@@ -1,4 +1,5 @@
--- `replay_host::held::Kept::ticks` meets its contract. Assumes nothing.
+-- `replay_host::held::Kept::ticks` meets its contract. The loop's invariant: the ticks that are left come to what all of
+-- them come to. The measure is how many are left. Assumes nothing.
 use mathlib.Core.Path.{sym, _∙_}
 use native.Mathlib.Omega.{arith}
 use borrow.Author.Needs.{needs}
