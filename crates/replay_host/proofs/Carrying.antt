@@ -149,7 +149,8 @@ module _ (text : List ℕ) (last : ℕ) where
   left-first x from = record { most = 65536; enough = omega arith; world = refl; printed = refl }
 
   module _ {x : World} {from : Output} where
-    next-of : (most at next : ℕ) (w : World) (out : Output) {y : World} {o : Output} → 65536 ≤ most + at → at < 65536 → at < last
+    next-of : (most at next : ℕ) (w : World) (out : Output) {y : World} {o : Output}
+        → 65536 ≤ most + at → at < 65536 → at < last
         → linesUpTo most text last at w .world ≡ linesDone text last x .world
         → laidOf (linesUpTo most text last at w .text) out ≡ laidOf (linesDone text last x .text) from
         → at < next → next ≡ lineEnd text at + 1 → y ≡ lineDone text at w .world

@@ -1,7 +1,7 @@
 // The lines of the input, carried out one after the other.
 ghost use mathlib.Core.Path.{_≡_};
 ghost use Rattle.replay_host.specs.Host.{Comes};
-ghost use Rattle.replay_host.specs.Lines.{worldOf, startRun, loggedDone, loggedBuffer, callsDone, callsBuffer};
+ghost use Rattle.replay_host.specs.Lines.{worldOf, startRun, callsDone, callsBuffer};
 ghost use Rattle.replay_host.specs.Lines.{clockAfter, carriedOut, linesDone, CarriesOut};
 use crate::held::Kept;
 use crate::ticks;
@@ -38,35 +38,6 @@ impl Run {
         }
     }
 
-    // A frame of a log, after the ticks that are due; where they are too many the line cannot be read.
-    fn logged(
-        self,
-        due: Due,
-        id: u32,
-        n: usize,
-        bytes: &Bytes,
-        v: &Voltages,
-        t: &Temperatures,
-        buf: &mut Buffer,
-        o: &mut Out,
-    ) -> Kept
-        ensures { λ r. ⌜ Comes (now (o .entry)) (self .kept .out) (now (o .exit)) r
-            (loggedDone due id n
-            (worldOf self (now (bytes .entry)) (now (v .entry)) (now (t .entry)) (now (buf .entry)))) ⌝ }
-        ensures { λ r. ⌜ now (buf .exit)
-            ≡ loggedBuffer due
-            (worldOf self (now (bytes .entry)) (now (v .entry)) (now (t .entry)) (now (buf .entry))) ⌝ }
-    {
-        let k = self.kept;
-        match due {
-            Due::Ticks(ticks, _) => {
-                let later = k.ticks(ticks, self.lent, v, t, buf, o);
-                later.frame(id, bytes, n, o)
-            }
-            Due::TooMany => k.unreadable(self.number, o),
-        }
-    }
-
     // The calls that a line asks for.
     fn calls(
         self,
@@ -94,7 +65,13 @@ impl Run {
             Asked::Frame(id, n) => k.frame(id, bytes, n, o),
             Asked::Logged(now, id, n) => {
                 let clock = self.clock;
-                self.logged(clock.due(now), id, n, bytes, v, t, buf, o)
+                match clock.due(now) {
+                    Due::Ticks(due, _) => {
+                        let ticked = k.ticks(due, self.lent, v, t, buf, o);
+                        ticked.frame(id, bytes, n, o)
+                    }
+                    Due::TooMany => k.unreadable(self.number, o),
+                }
             }
             Asked::Write(n) => k.write(n, buf, o),
             Asked::Unreadable => k.unreadable(self.number, o),

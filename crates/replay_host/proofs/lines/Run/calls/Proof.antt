@@ -2,7 +2,9 @@
 use mathlib.Core.Path.{refl, sym, _∙_, ap}
 use borrow.Author.Needs.{needs}
 use denote.Ref.{now}
-use Rattle.replay_host.specs.Lines.{worldOf, ticksIn, callsDone, callsBuffer}
+use lib.ListN.{take}
+use Rattle.replay_host.specs.Host.{frameDone}
+use Rattle.replay_host.specs.Lines.{worldOf, ticksIn, loggedDone, loggedBuffer, callsDone, callsBuffer}
 use Rattle.replay_host.specs.Ticks.{ticksBuffer}
 use Rattle.replay_host.proofs.Carrying.{comes-then, absent-keeps, logged-by, calls-by, rest-calls}
 use Rattle.replay_host.proofs.Outcomes.{comes-eq, comes-none}
@@ -36,8 +38,20 @@ enum-known-asked-4 c = search needs
 due-requires : tie.Need-due-requires
 due-requires c κs = search needs
 
-logged-requires : tie.Need-logged-requires
-logged-requires c κs = search needs
+enum-known-due : tie.Need-enum-known-due
+enum-known-due c = search needs
+
+ticks-requires-2 : tie.Need-ticks-requires-2
+ticks-requires-2 c κs = search needs
+
+frame-requires-2 : tie.Need-frame-requires-2
+frame-requires-2 c κs = search needs
+
+enum-told : tie.Need-enum-told
+enum-told c = search needs
+
+unreadable-requires : tie.Need-unreadable-requires
+unreadable-requires c κs = search needs
 
 enum-known-asked-5 : tie.Need-enum-known-asked-5
 enum-known-asked-5 c = search needs
@@ -45,11 +59,11 @@ enum-known-asked-5 c = search needs
 write-requires : tie.Need-write-requires
 write-requires c κs = search needs
 
-enum-told : tie.Need-enum-told
-enum-told c = search needs
+enum-told-2 : tie.Need-enum-told-2
+enum-told-2 c = search needs
 
-unreadable-requires : tie.Need-unreadable-requires
-unreadable-requires c κs = search needs
+unreadable-requires-2 : tie.Need-unreadable-requires-2
+unreadable-requires-2 c κs = search needs
 
 returns : tie.Need-returns
 unfolding callsDone callsBuffer
@@ -79,28 +93,41 @@ returns-3 c =
     calls-by w _ _ (c .before .before .before .asked3 .given .1) (c .frame .ensures, refl)
 
 returns-4 : tie.Need-returns-4
-unfolding callsDone callsBuffer
+unfolding callsDone callsBuffer loggedDone loggedBuffer
 returns-4 c =
-    let a = c .before .before .before .before .before .before .before .before .before .args in
+    let a = c .before .before .before .before .before .before .before .before .before .before .before .before .before .before .args in
     let w = worldOf (a .self) (now (a .bytes)) (now (a .v)) (now (a .t)) (now (a .buf)) in
-    calls-by w _ _ (c .before .before .before .before .before .before .asked4 .given .1) (logged-by w _ _ _ _ (sym (c .before .before .before .due .ensures)) (c .logged .ensures))
+    let q = c .before .before .before .before .before .before .before .before .before .before .before .asked4 .given .0 in
+    calls-by w _ _ (c .before .before .before .before .before .before .before .before .before .before .before .asked4 .given .1)
+    (logged-by w _ _ _ _ (sym (c .before .before .before .before .before .before .before .before .due .ensures) ∙ c .before .before .before .before .before .before .due2 .given .1) (
+      comes-then (frameDone (q .1 .0) (take (q .1 .1 .0) (now (a .bytes)))) (c .before .before .ticks2 .ensures .0) (c .frame2 .ensures),
+      c .before .before .ticks2 .ensures .1,
+    ))
 
 returns-5 : tie.Need-returns-5
-unfolding callsDone callsBuffer
+unfolding callsDone callsBuffer loggedDone loggedBuffer
 returns-5 c =
-    let a = c .before .before .before .before .before .before .before .args in
+    let a = c .before .before .before .before .before .before .before .before .before .before .args in
     let w = worldOf (a .self) (now (a .bytes)) (now (a .v)) (now (a .t)) (now (a .buf)) in
-    calls-by w _ _ (c .before .before .before .before .asked5 .given .1) (c .write .ensures)
+    calls-by w _ _ (c .before .before .before .before .before .before .before .asked4 .given .1)
+    (logged-by w _ _ _ _ (sym (c .before .before .before .before .due .ensures) ∙ c .before .before .enum-told .given .1) (c .unreadable .ensures, refl))
 
 returns-6 : tie.Need-returns-6
 unfolding callsDone callsBuffer
 returns-6 c =
-    let a = c .before .before .before .before .before .args in
+    let a = c .before .before .before .before .before .before .before .args in
     let w = worldOf (a .self) (now (a .bytes)) (now (a .v)) (now (a .t)) (now (a .buf)) in
-    calls-by w _ _ (c .before .before .enum-told .given .1) (c .unreadable .ensures, refl)
+    calls-by w _ _ (c .before .before .before .before .asked5 .given .1) (c .write .ensures)
 
 returns-7 : tie.Need-returns-7
+unfolding callsDone callsBuffer
 returns-7 c =
+    let a = c .before .before .before .before .before .args in
+    let w = worldOf (a .self) (now (a .bytes)) (now (a .v)) (now (a .t)) (now (a .buf)) in
+    calls-by w _ _ (c .before .before .enum-told2 .given .1) (c .unreadable2 .ensures, refl)
+
+returns-8 : tie.Need-returns-8
+returns-8 c =
     let a = c .before .before .args in
     let w = worldOf (a .self) (now (a .bytes)) (now (a .v)) (now (a .t)) (now (a .buf)) in
     let e = rest-calls (a .asked) w (c .match .keys7) in
@@ -119,15 +146,20 @@ calls-spec =
     frame-requires
     enum-known-asked-4
     due-requires
-    logged-requires
-    enum-known-asked-5
-    write-requires
+    enum-known-due
+    ticks-requires-2
+    frame-requires-2
     enum-told
     unreadable-requires
+    enum-known-asked-5
+    write-requires
+    enum-told-2
+    unreadable-requires-2
     returns
     returns-2
     returns-3
     returns-4
     returns-5
     returns-6
-    returns-7)
+    returns-7
+    returns-8)
