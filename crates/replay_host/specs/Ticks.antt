@@ -18,14 +18,20 @@ use Rattle.replay_host.specs.Host.{Keeps, Outcome, only, first, entered}
 unfoldable pub nextNumber : ℕ → ℕ
 nextNumber n = cond (ltb n 0xffff_ffff_ffff_ffff) (n + 1) n
 
--- a tick that was answered, with the buffer after it: an accepted one prints its frames, which are the bytes written,
--- with its own number for their time, and counts; a refused one prints its number, and does not count
+-- the ticks accepted after one that was answered a number: only one that is accepted counts
+unfoldable pub countAfter : ℕ → ℕ → ℕ
+countAfter number count = cond (eqb number 0) (nextNumber count) count
+
+-- what a tick prints: an accepted one its frames, which are the first n bytes of the buffer, with the number of ticks
+-- accepted before it for their time; a refused one its number
+unfoldable pub tickText : ℕ → ℕ → ℕ → List ℕ → List ℕ
+tickText number n count buf = cond (eqb number 0) (sentText count (take n buf)) (tickLine number)
+
+-- a tick that was answered, with the buffer after it
 unfoldable pub tickedDone : Keeps → Ticked → List ℕ → Outcome
 tickedDone x k buf =
-    cond (eqb (k .number) 0)
-    (first (sentText (x .accepted) (take (k .bytes) buf))
-    (entered (x .held) (k .controller) (nextNumber (x .accepted))))
-    (first (tickLine (k .number)) (entered (x .held) (k .controller) (x .accepted)))
+    first (tickText (k .number) (k .bytes) (x .accepted) buf)
+    (entered (x .held) (k .controller) (countAfter (k .number) (x .accepted)))
 
 module _ (l : Lent) (v : List ℕ) (t : List ℤ) where
   -- one tick, for what is held; none where there is no controller

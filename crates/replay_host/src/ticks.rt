@@ -1,7 +1,9 @@
 // Ticks, one after the other, and what each was answered, sent and entered printed.
 ghost use mathlib.Core.Path.{_≡_};
+ghost use Rattle.replay_print.specs.Out.{Prints};
 ghost use Rattle.replay_host.specs.Host.{keepsOf, Comes};
-ghost use Rattle.replay_host.specs.Ticks.{nextNumber, tickedDone, tickDone, tickBuffer, ticksDone, ticksBuffer};
+ghost use Rattle.replay_host.specs.Ticks.{nextNumber, countAfter, tickText, tickedDone};
+ghost use Rattle.replay_host.specs.Ticks.{tickDone, tickBuffer, ticksDone, ticksBuffer};
 use crate::calls;
 use crate::held::Held;
 use crate::held::Kept;
@@ -20,20 +22,34 @@ pub fn next(n: u64) -> u64
     if n < u64::MAX { n + 1 } else { n }
 }
 
+// The ticks accepted after one that was answered a number: only one that is accepted counts.
+fn counted(number: u8, count: u64) -> u64
+    ensures { λ r. ⌜ r ≡ countAfter number count ⌝ }
+{
+    if number == 0 { next(count) } else { count }
+}
+
+// What a tick was answered and sent: the frames of one that is accepted, which are the first n bytes of the buffer, or
+// the number of one that is refused.
+fn print(o: &mut Out, at: usize, number: u8, n: usize, count: u64, buf: &Buffer) -> usize
+    ensures { λ r. ⌜ Prints (now (o .entry)) at (now (o .exit)) r (tickText number n count (now (buf .entry))) ⌝ }
+{
+    if number == 0 {
+        return replay_print::frames::sent(o, at, buf, n, count);
+    }
+    answers::tick(o, at, number)
+}
+
 impl Kept {
-    // What a tick was answered and sent. Only one that is accepted counts.
+    // A tick that was answered.
     fn ticked(self, x: Ticked, buf: &Buffer, o: &mut Out) -> Kept
         ensures { λ r. ⌜ Comes (now (o .entry)) (self .out) (now (o .exit)) r
             (tickedDone (keepsOf self) x (now (buf .entry))) ⌝ }
     {
         let later = x.controller;
         let count = self.accepted;
-        if x.number == 0 {
-            let a = replay_print::frames::sent(o, self.out, buf, x.bytes, count);
-            return self.with(later, next(count), o, a);
-        }
-        let b = answers::tick(o, self.out, x.number);
-        self.with(later, count, o, b)
+        let at = print(o, self.out, x.number, x.bytes, count, buf);
+        self.with(later, counted(x.number, count), o, at)
     }
 
     // One tick; none where there is no controller.
