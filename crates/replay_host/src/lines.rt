@@ -1,4 +1,8 @@
 // The lines of the input, carried out one after the other.
+ghost use mathlib.Core.Path.{_≡_};
+ghost use Rattle.replay_host.specs.Host.{Comes};
+ghost use Rattle.replay_host.specs.Lines.{worldOf, startRun, callsDone, callsBuffer};
+ghost use Rattle.replay_host.specs.Lines.{clockAfter, carriedOut, linesDone, CarriesOut};
 use crate::held::Kept;
 use crate::ticks;
 use replay_print::Buffer;
@@ -23,12 +27,55 @@ pub struct Run {
 }
 
 impl Run {
-    pub fn start() -> Run {
+    pub fn start() -> Run
+        ensures { λ r. ⌜ r ≡ startRun ⌝ }
+    {
         Run {
             kept: Kept::start(),
             lent: Lent::start(),
             clock: Clock::start(),
             number: 0,
+        }
+    }
+
+    // The calls that a line asks for.
+    fn calls(
+        self,
+        asked: Asked,
+        bytes: &Bytes,
+        v: &Voltages,
+        t: &Temperatures,
+        buf: &mut Buffer,
+        o: &mut Out,
+    ) -> Kept
+        ensures { λ r. ⌜ Comes (now (o .entry)) (self .kept .out) (now (o .exit)) r
+            (callsDone asked
+            (worldOf self (now (bytes .entry)) (now (v .entry)) (now (t .entry)) (now (buf .entry)))) ⌝ }
+        ensures { λ r. ⌜ now (buf .exit)
+            ≡ callsBuffer asked
+            (worldOf self (now (bytes .entry)) (now (v .entry)) (now (t .entry)) (now (buf .entry))) ⌝ }
+    {
+        let k = self.kept;
+        match asked {
+            Asked::Settings(n) => k.settings(bytes, n, o),
+            Asked::Ticks(n) => {
+                let later = k.absent(o);
+                later.ticks(n, self.lent, v, t, buf, o)
+            }
+            Asked::Frame(id, n) => k.frame(id, bytes, n, o),
+            Asked::Logged(now, id, n) => {
+                let clock = self.clock;
+                match clock.due(now) {
+                    Due::Ticks(due, _) => {
+                        let ticked = k.ticks(due, self.lent, v, t, buf, o);
+                        ticked.frame(id, bytes, n, o)
+                    }
+                    Due::TooMany => k.unreadable(self.number, o),
+                }
+            }
+            Asked::Write(n) => k.write(n, buf, o),
+            Asked::Unreadable => k.unreadable(self.number, o),
+            _ => k,
         }
     }
 
@@ -41,35 +88,32 @@ impl Run {
         t: &Temperatures,
         buf: &mut Buffer,
         o: &mut Out,
-    ) -> Run {
+    ) -> Run
+        ensures { λ r. ⌜ CarriesOut (now (o .entry)) (self .kept .out) (now (o .exit)) (r .kept .out)
+            (worldOf r (now (bytes .entry)) (now (v .entry)) (now (t .entry)) (now (buf .exit)))
+            (carriedOut asked
+            (worldOf self (now (bytes .entry)) (now (v .entry)) (now (t .entry)) (now (buf .entry)))) ⌝ }
+    {
         let l = self.lent;
-        let mut clock = self.clock;
-        let mut k = self.kept;
-        match asked {
-            Asked::Settings(n) => k = k.settings(bytes, n, o),
-            Asked::Ticks(n) => {
-                k = k.absent(o);
-                k = k.ticks(n, l, v, t, buf, o);
-            }
-            Asked::Frame(id, n) => k = k.frame(id, bytes, n, o),
-            Asked::Logged(now, id, n) => match clock.due(now) {
-                Due::Ticks(due, later) => {
-                    clock = later;
-                    k = k.ticks(due, l, v, t, buf, o);
-                    k = k.frame(id, bytes, n, o);
-                }
-                Due::TooMany => k = k.unreadable(self.number, o),
-            },
-            Asked::Write(n) => k = k.write(n, buf, o),
-            Asked::Unreadable => k = k.unreadable(self.number, o),
-            _ => {}
-        }
         Run {
-            kept: k,
+            kept: self.calls(asked, bytes, v, t, buf, o),
             lent: l.after(asked),
-            clock: clock,
+            clock: clock_after(self.clock, asked),
             number: self.number,
         }
+    }
+}
+
+// A log's clock after a line: only a frame of a log moves it.
+fn clock_after(c: Clock, asked: Asked) -> Clock
+    ensures { λ r. ⌜ r ≡ clockAfter asked c ⌝ }
+{
+    match asked {
+        Asked::Logged(now, _, _) => match c.due(now) {
+            Due::Ticks(_, later) => later,
+            Due::TooMany => c,
+        },
+        _ => c,
     }
 }
 
@@ -83,7 +127,12 @@ pub fn carry_out_lines(
     t: &mut Temperatures,
     buf: &mut Buffer,
     o: &mut Out,
-) -> Run {
+) -> Run
+    ensures { λ r. ⌜ CarriesOut (now (o .entry)) (run .kept .out) (now (o .exit)) (r .kept .out)
+        (worldOf r (now (bytes .exit)) (now (v .exit)) (now (t .exit)) (now (buf .exit)))
+        (linesDone (now (text .entry)) last
+        (worldOf run (now (bytes .entry)) (now (v .entry)) (now (t .entry)) (now (buf .entry)))) ⌝ }
+{
     let mut r = run;
     let mut at = 0;
     while at < 65536 {

@@ -1,59 +1,55 @@
 // Numbers in decimal, and bytes in hex.
+ghost use mathlib.Core.Path.{_≡_};
+ghost use Prim.Native.Nat.{_-_, _<_};
+ghost use lib.ListN.{replicate};
+ghost use Rattle.replay_print.specs.Out.{Prints};
+ghost use Rattle.replay_print.specs.Text.{paddedOf, hexDigit, hexOf, partOf, hexesOf};
 use crate::out;
 use crate::out::Out;
 
-// The zeros that stand before k digits, up to a width of at most 20.
-fn zeros(o: &mut Out, at: usize, width: usize, k: usize) -> usize {
+// The zeros that stand before k digits, up to a width.
+fn zeros(o: &mut Out, at: usize, width: usize, k: usize) -> usize
+    ensures { λ r. ⌜ Prints (now (o .entry)) at (now (o .exit)) r (replicate (width - k) 48) ⌝ }
+{
     let mut a = at;
     let mut i = k;
-    while i < 20 {
-        if width <= i {
-            break;
-        }
+    while i < width {
         a = out::put(o, a, b'0');
         i += 1;
     }
     a
 }
 
-// The first k of the digits.
-fn first(o: &mut Out, at: usize, digits: [u8; 20], k: usize) -> usize {
-    let mut a = at;
-    let mut i = 0;
-    while i < 20 {
-        if k <= i {
-            break;
-        }
-        a = out::put(o, a, digits[i]);
-        i += 1;
-    }
-    a
-}
-
 // A number in decimal, with zeros before it up to a width.
-pub fn decimal(o: &mut Out, at: usize, n: u64, width: usize) -> usize {
+pub fn decimal(o: &mut Out, at: usize, n: u64, width: usize) -> usize
+    ensures { λ r. ⌜ Prints (now (o .entry)) at (now (o .exit)) r (paddedOf width n) ⌝ }
+{
     let mut digits = [0u8; 20];
     let k = io::decimal(n, &mut digits);
     let a = zeros(o, at, width, k);
-    first(o, a, digits, k)
+    out::text(o, a, &digits[..k])
 }
 
 // A hex digit, in capitals.
-fn digit(n: u8) -> u8 {
-    if n < 10 {
-        return b'0' + n;
-    }
-    if n < 16 { b'A' + (n - 10) } else { b'?' }
+fn digit(n: u8) -> u8
+    requires { ⌜ n < 16 ⌝ }
+    ensures { λ r. ⌜ r ≡ hexDigit n ⌝ }
+{
+    if n < 10 { b'0' + n } else { b'A' + (n - 10) }
 }
 
 // A byte as two hex digits.
-pub fn byte(o: &mut Out, at: usize, b: u8) -> usize {
+pub fn byte(o: &mut Out, at: usize, b: u8) -> usize
+    ensures { λ r. ⌜ Prints (now (o .entry)) at (now (o .exit)) r (hexOf b) ⌝ }
+{
     let a = out::put(o, at, digit(b / 16));
     out::put(o, a, digit(b % 16))
 }
 
 // The bytes of a slice from a place up to another, in hex; those past its end are left out.
-pub fn bytes(o: &mut Out, at: usize, s: &[u8], from: usize, to: usize) -> usize {
+pub fn bytes(o: &mut Out, at: usize, s: &[u8], from: usize, to: usize) -> usize
+    ensures { λ r. ⌜ Prints (now (o .entry)) at (now (o .exit)) r (hexesOf (partOf from to (now (s .entry)))) ⌝ }
+{
     let n = s.len();
     let mut a = at;
     let mut i = from;

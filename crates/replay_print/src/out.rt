@@ -1,4 +1,6 @@
 // The output, by way of a buffer that is written to standard output where it is full.
+ghost use Rattle.replay_print.specs.Out.{Prints};
+ghost use mathlib.Core.List.{[], _∷_};
 use libc::STDOUT_FILENO;
 
 // The output that waits to be written.
@@ -12,7 +14,9 @@ fn flush(o: &[u8], at: usize) {
 }
 
 // One byte.
-pub fn put(o: &mut Out, at: usize, b: u8) -> usize {
+pub fn put(o: &mut Out, at: usize, b: u8) -> usize
+    ensures { λ r. ⌜ Prints (now (o .entry)) at (now (o .exit)) r (b ∷ []) ⌝ }
+{
     if at < 65536 {
         o[at] = b;
         return at + 1;
@@ -23,7 +27,9 @@ pub fn put(o: &mut Out, at: usize, b: u8) -> usize {
 }
 
 // The bytes of a text.
-pub fn text(o: &mut Out, at: usize, s: &[u8]) -> usize {
+pub fn text(o: &mut Out, at: usize, s: &[u8]) -> usize
+    ensures { λ r. ⌜ Prints (now (o .entry)) at (now (o .exit)) r (now (s .entry)) ⌝ }
+{
     let n = s.len();
     let mut a = at;
     let mut i = 0;

@@ -1,4 +1,8 @@
 // A session's standing: its state's name, and its station.
+ghost use mathlib.Core.Path.{_≡_};
+ghost use Rattle.replay_print.specs.Out.{Prints};
+ghost use Rattle.replay_print.specs.Standings.{stateNumber, stateName, standingOf, idleStanding};
+ghost use Rattle.replay_print.specs.Standings.{sameStanding, stationText, standingLine, changedText};
 use crate::numerals;
 use crate::out;
 use crate::out::Out;
@@ -10,7 +14,9 @@ pub struct Standing {
     pub station: u8,
 }
 
-fn code(state: State) -> u8 {
+fn code(state: State) -> u8
+    ensures { λ r. ⌜ r ≡ stateNumber state ⌝ }
+{
     match state {
         State::Idle => 0,
         State::Offered => 1,
@@ -29,7 +35,9 @@ fn code(state: State) -> u8 {
     }
 }
 
-fn name(o: &mut Out, at: usize, code: u8) -> usize {
+fn name(o: &mut Out, at: usize, code: u8) -> usize
+    ensures { λ r. ⌜ Prints (now (o .entry)) at (now (o .exit)) r (stateName code) ⌝ }
+{
     match code {
         0 => out::text(o, at, b"Idle"),
         1 => out::text(o, at, b"Offered"),
@@ -44,36 +52,54 @@ fn name(o: &mut Out, at: usize, code: u8) -> usize {
 
 impl Standing {
     // As it is before there is a controller.
-    pub fn idle() -> Standing {
+    pub fn idle() -> Standing
+        ensures { λ r. ⌜ r ≡ idleStanding ⌝ }
+    {
         Standing {
             state: 0,
             station: 0,
         }
     }
 
-    pub fn of(state: State, station: u8) -> Standing {
+    pub fn of(state: State, station: u8) -> Standing
+        ensures { λ r. ⌜ r ≡ standingOf state station ⌝ }
+    {
         Standing {
             state: code(state),
             station: station,
         }
     }
 
-    fn same(self, other: Standing) -> bool {
+    fn same(self, other: Standing) -> bool
+        ensures { λ r. ⌜ r ≡ sameStanding self other ⌝ }
+    {
         (self.state == other.state) & ((self.state == 0) | (self.station == other.station))
     }
 
-    fn line(self, o: &mut Out, at: usize) -> usize {
+    // The station, unless the state is Idle.
+    fn station(self, o: &mut Out, at: usize) -> usize
+        ensures { λ r. ⌜ Prints (now (o .entry)) at (now (o .exit)) r (stationText self) ⌝ }
+    {
+        if self.state == 0 {
+            return at;
+        }
+        let a = out::put(o, at, b' ');
+        numerals::byte(o, a, self.station)
+    }
+
+    fn line(self, o: &mut Out, at: usize) -> usize
+        ensures { λ r. ⌜ Prints (now (o .entry)) at (now (o .exit)) r (standingLine self) ⌝ }
+    {
         let mut a = out::text(o, at, b"state ");
         a = name(o, a, self.state);
-        if self.state != 0 {
-            a = out::put(o, a, b' ');
-            a = numerals::byte(o, a, self.station);
-        }
+        a = self.station(o, a);
         out::put(o, a, b'\n')
     }
 
     // The line of a standing, where it is not what it was before.
-    pub fn changed(self, o: &mut Out, at: usize, before: Standing) -> usize {
+    pub fn changed(self, o: &mut Out, at: usize, before: Standing) -> usize
+        ensures { λ r. ⌜ Prints (now (o .entry)) at (now (o .exit)) r (changedText self before) ⌝ }
+    {
         if self.same(before) {
             at
         } else {

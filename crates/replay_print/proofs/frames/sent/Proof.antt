@@ -1,66 +1,50 @@
--- `replay_print::frames::sent` is safe and ends: what is left of the buffer falls. Assumes nothing.
-use Prim.Native.Nat.{_≤_, _-_}
+-- `replay_print::frames::sent` meets its contract. Assumes nothing.
+use Prim.Native.Nat.{ℕ, _-_}
+use mathlib.Core.Path.{_≡_, ap, sym}
+use native.Mathlib.Omega.{arith}
 use borrow.Author.Needs.{needs}
+use denote.Ref.{now}
+use lib.ListN.{take}
+use lib.Seq.{take-all}
+use Rattle.replay_print.specs.Frames.{sentText}
+use Rattle.replay_print.proofs.Laws.{prints-eq}
 use Rattle.replay_print.proofs.frames.sent.Statement.{statement}
 use Rattle.replay_print.proofs.frames.sent.Tie as tie
 
-abbrev Inv-loop : tie.InvT-loop
-Inv-loop o₀ at buf n tick a₀ i₀ t8 o a i = i ≤ 4096
+sub-lines : tie.Need-sub-lines
+sub-lines c = search needs
 
-abbrev μ-loop : tie.MeasureT-loop
-μ-loop o₀ at buf n tick a₀ i₀ t8 o a i = 4096 - i
+part-lines-start : tie.Need-part-lines-start
+part-lines-start c = search needs
 
-loop-holds : tie.Need-loop-holds Inv-loop μ-loop
-loop-holds c = search needs
+part-lines-end : tie.Need-part-lines-end
+part-lines-end c = search needs
 
-add-loop : tie.Need-add-loop Inv-loop μ-loop
-add-loop c = search needs
+lines-requires : tie.Need-lines-requires
+lines-requires c κs = search needs
 
-time-requires : tie.Need-time-requires Inv-loop μ-loop
-time-requires c κs = search needs
+returns : tie.Need-returns
+returns c =
+    let a = c .before .before .before .before .before .args in
+    let z : a .n - 0 ≡ a .n = omega arith in
+    prints-eq (c .lines .ensures) (ap (λ (k : ℕ). sentText (a .tick) (take k (now (a .buf)))) z)
 
-slice-aggregate-text : tie.Need-slice-aggregate-text Inv-loop μ-loop
-slice-aggregate-text c = search needs
+lines-requires-2 : tie.Need-lines-requires-2
+lines-requires-2 c κs = search needs
 
-text-requires : tie.Need-text-requires Inv-loop μ-loop
-text-requires c κs = search needs
-
-frame-requires : tie.Need-frame-requires Inv-loop μ-loop
-frame-requires c κs = search needs
-
-put-requires : tie.Need-put-requires Inv-loop μ-loop
-put-requires c κs = search needs
-
-add-i : tie.Need-add-i Inv-loop μ-loop
-add-i c = search needs
-
-loop-less : tie.Need-loop-less Inv-loop μ-loop
-loop-less c = search needs
-
-loop-again : tie.Need-loop-again Inv-loop μ-loop
-loop-again c = search needs
-
-returns : tie.Need-returns Inv-loop μ-loop
-returns c = search needs
-
-returns-2 : tie.Need-returns-2 Inv-loop μ-loop
-returns-2 c = search needs
+returns-2 : tie.Need-returns-2
+returns-2 c =
+    let a = c .before .before .before .before .args in
+    prints-eq (c .lines2 .ensures) (ap (sentText (a .tick)) (sym (take-all (a .n) (now (a .buf)) (c .before .before .if1 .left))))
 
 pub sent-spec : {M : Type 1} → statement M
 sent-spec =
     tie.close
     (tie.spec
-    Inv-loop
-    μ-loop
-    loop-holds
-    add-loop
-    time-requires
-    slice-aggregate-text
-    text-requires
-    frame-requires
-    put-requires
-    add-i
-    loop-less
-    loop-again
+    sub-lines
+    part-lines-start
+    part-lines-end
+    lines-requires
     returns
+    lines-requires-2
     returns-2)

@@ -1,0 +1,4 @@
+pub mod Parts
+pub mod Outcomes
+pub mod Ticking
+pub mod Carrying

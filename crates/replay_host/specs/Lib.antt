@@ -1,0 +1,4 @@
+pub mod Calls
+pub mod Host
+pub mod Ticks
+pub mod Lines

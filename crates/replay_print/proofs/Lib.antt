@@ -1,0 +1,4 @@
+pub mod Laws
+pub mod Spelled
+pub mod SentLines
+pub mod WorkedRows
