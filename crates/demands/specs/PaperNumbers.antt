@@ -1,6 +1,6 @@
 -- The numbers that the paper sets and that stand behind a name in the definitions (01, "Identifier and message
--- numbers", "Settings record", "Readings", "Numbers returned", "Session by tick", "Broadcasts and cell answers"), each with the
--- paper's value: none of them can move in a definition and its code together unseen. For `the-papers-numbers`.
+-- numbers", "Settings record", "Readings", "Numbers returned", "Session by tick", "Broadcasts and cell answers"), each
+-- with the paper's value: none of them can move in a definition and its code together unseen. For `the-papers-numbers`.
 use Prim.Native.Nat.{ℕ}
 use mathlib.Core.Path.{_≡_}
 use mathlib.Core.List.{[], _∷_}
@@ -10,6 +10,7 @@ use Rattle.messages.specs.Identifier.{firstBroadcast}
 use Rattle.frames.specs.Frame.{recordSize}
 use Rattle.settings.specs.Range.{lastAddress, leastCellVoltage, mostCellVoltage, leastCurrent, mostCurrent, leastPack, mostPack, mostTemperature, leastStations, mostStations}
 use Rattle.cells.specs.Tables.{mostCells, mostVoltage}
+use Rattle.cells.specs.Sent.{mostSent}
 use Rattle.cells.specs.Groups.{voltagesPerGroup, temperaturesPerGroup}
 use Rattle.broadcasts.specs.Beat.{broadcastEach}
 use Rattle.queries.specs.Waiting.{mostWaiting}
@@ -17,6 +18,7 @@ use Rattle.session_states.specs.Limits.{silenceLimit, closingLimit, firstEcp, d
 use Rattle.session_frames.specs.Layouts.{holdCell}
 use Rattle.refusals.specs.Tick.{mostFrames, tickRoom}
 use Rattle.demands.specs.Silent.{longest}
+use Rattle.demands.specs.Closing.{longestClosing}
 
 -- a row of the message table: PF, priority, length, PS
 abbrev pub row : ℕ → ℕ → ℕ → ℕ → Row
@@ -49,8 +51,9 @@ pub record PaperNumbers : Type 0 where
   pub temperature-255 : mostTemperature ≡ 255
   pub stations-1 : leastStations ≡ 1
   pub stations-4 : mostStations ≡ 4
-  -- "voltage 0 to 1000 hundredths"; "4 voltages", "8 temperatures" a group; 3.55 V a cell in Hold
+  -- "voltage 0 to 1000 hundredths"; 205 F is sent as 255; "4 voltages", "8 temperatures" a group; 3.55 V a cell in Hold
   pub voltage-1000 : mostVoltage ≡ 1000
+  pub sent-255 : mostSent ≡ 255
   pub group-4 : voltagesPerGroup ≡ 4
   pub group-8 : temperaturesPerGroup ≡ 8
   pub hold-355 : holdCell .0 ≡ 355
@@ -66,6 +69,7 @@ pub record PaperNumbers : Type 0 where
   pub silence-200 : silenceLimit ≡ 200
   pub closing-600 : closingLimit ≡ 600
   pub longest-801 : longest ≡ 801
+  pub closing-601 : longestClosing ≡ 601
   -- "ECP at 5, 15, 25 and so on"
   pub ecp-5 : firstEcp ≡ 5
   -- Drive "up to 18000 ticks"; Rest "6000 ticks"; Hold "18000 ticks"; "where R is under 60 or six Drives are done"

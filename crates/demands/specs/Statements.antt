@@ -1,5 +1,5 @@
--- THE STATEMENTS, to be read aloud: one for each sentence of docs/INSURER.md and docs/PROMISES.md that claims something
--- of the controller, in their order. Each is of the calls that were made and of what they gave: `AfterCalls ms c` is
+-- THE STATEMENTS, to be read aloud: those of the sentences of docs/INSURER.md and docs/PROMISES.md that have a theorem,
+-- in their order. Each is of the calls that were made and of what they gave: `AfterCalls ms c` is
 -- "after the calls `ms` from the start the controller in use is `c`", `NextCall c m` "the call `m` is made then", and
 -- `useThen c m` is the controller in use after it. The theorems of these types stand in proofs/Statements.antt, one a
 -- line; a theorem's name is its statement's, in small letters. A message's flag is true where its byte is AA, of CCS
@@ -77,7 +77,8 @@ hasGone w ms = gone w false (stepsMade NoController ms)
 
 -- "What ends a session": after any calls from the start, a call after which an open session is over is one of these: a
 -- CEM of its station; a CST AA of its station in Stopping, an EST of ours having gone out since Stopping began; a tick,
--- by one of the rules that end; new settings
+-- by one of the rules that end; new settings. (Over: in Idle after the call. That no call puts another session in its
+-- place: `Unreached`, `WhatAMessageDoes`)
 abbrev pub WhatEndsASession : Type 0
 WhatEndsASession =
     (ms : List CallMade) (c : Controller) (m : CallMade) → AfterCalls ms c → NextCall c m
@@ -112,7 +113,7 @@ ErmGone =
     (ms : List CallMade) (c : Controller) → AfterCalls ms c
     → isReadyYes (c .session .state) ≡ true → sinceFirstTick (c .session .count) ≡ hasGone erm ms
 
--- "An acknowledgement that comes before our EST is answered 11 and changes nothing"
+-- "A CST AA that comes in Stopping before our EST is answered 11 and changes nothing"
 abbrev pub EarlyAcknowledgement : Type 0
 EarlyAcknowledgement =
     (ms : List CallMade) (c : Controller) (id : ℕ) (s : List ℕ) (a : Answer) → AfterCalls ms c
