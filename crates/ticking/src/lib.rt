@@ -52,7 +52,8 @@ fn five(f: Broadcasts, buf: &mut [u8], at: usize) -> usize
 // The broadcasts, where they are due.
 fn broadcast(x: Settings, beat: Beat, r: Readings, c: Cells, buf: &mut [u8], at: usize) -> usize
     requires { ⌜ (at + 5 * recordSize ≤ length (now buf)) × BoundedCells c ⌝ }
-    ensures { λ n. ⌜ Sent 5 (now (buf .entry)) (now (buf .exit)) at n (broadcastAt (beat .tick) (x .own) (x .versions) r c) ⌝ }
+    ensures { λ n. ⌜ Sent 5 (now (buf .entry)) (now (buf .exit)) at n
+        (broadcastAt (beat .tick) (x .own) (x .versions) r c) ⌝ }
 {
     if beat.due() {
         let versions = x.versions;
@@ -75,7 +76,9 @@ pub fn lay(
     buf: &mut [u8],
 ) -> usize
     requires { ⌜ (9 * recordSize ≤ length (now buf)) × BoundedCells c ⌝ }
-    ensures { λ n. ⌜ Sent 9 (now (buf .entry)) (now (buf .exit)) 0 n (frameList charged ++ (broadcastAt (beat .tick) (x .own) (x .versions) r c ++ cond due (cell ∷ []) [])) ⌝ }
+    ensures { λ n. ⌜ Sent 9 (now (buf .entry)) (now (buf .exit)) 0 n
+        (frameList charged
+        ++ (broadcastAt (beat .tick) (x .own) (x .versions) r c ++ cond due (cell ∷ []) [])) ⌝ }
 {
     let a = charge(charged, buf, 0);
     let b = broadcast(x, beat, r, c, buf, a);
