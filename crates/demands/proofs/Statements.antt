@@ -1,5 +1,5 @@
 -- Every statement of specs/Statements.antt and its theorem, in the statements' order. Assumes nothing.
-use Rattle.demands.specs.Statements.{WhatEndsASession, EachEndsASession, EstGone, EimGone, EcpGone, ErmGone, EarlyAcknowledgement, WhatEndsACharge, EachEndsACharge, EstEachTick, ClosingEnds, WhatATickDoes, WhatATickSends, WhatARefusedTickDoes, WhatATickDoesInIdle, Over, EachOpens, ReplayedAcknowledgement, CvmTaken, CmpTaken, CrmTaken, WhatBeginsACharge, TheLastCmpCounts, WhatAMessageDoes, Undisturbed, Unreached, Unmoved, Within801, EightHundredAreNotEnough, SilentStation, CimHoldsNothing, CrmHoldsNothing, ReachesCharging, FromCimToCharging, NoSooner, EightAreEnough, Demand1, TheNumbers, Demand2, AnyCallsCanBeMade, NeverAboveTheMaximum, NotAboveTheStation, NoRequestAbove, NoRequestAboveTheStation, TheWorkedRows, ThePapersNumbers}
+use Rattle.demands.specs.Statements.{WhatEndsASession, EachEndsASession, EstGone, EimGone, EcpGone, ErmGone, EarlyAcknowledgement, WhatEndsACharge, EachEndsACharge, EstEachTick, ClosingEnds, WhatATickDoes, WhatATickSends, WhatARefusedTickDoes, WhatATickDoesInIdle, Over, EachOpens, ReplayedAcknowledgement, CvmTaken, CmpTaken, CrmTaken, WhatBeginsACharge, TheLastCmpCounts, NoRequestAbove, NoRequestAboveTheStation, NeverAboveTheMaximum, NotAboveTheStation, WhatAMessageDoes, Undisturbed, Unreached, Unmoved, Within801, EightHundredAreNotEnough, SilentStation, CimHoldsNothing, CrmHoldsNothing, ReachesCharging, FromCimToCharging, NoSooner, EightAreEnough, Demand1, TheNumbers, Demand2, AnyCallsCanBeMade, TheWorkedRows, ThePapersNumbers}
 use Rattle.demands.proofs.OfCalls as call
 use Rattle.demands.proofs.TickOfCalls as ticks
 use Rattle.demands.proofs.OfRuns as runs
@@ -81,6 +81,18 @@ what-begins-a-charge = begins.what-begins-a-charge
 pub the-last-cmp-counts : TheLastCmpCounts
 the-last-cmp-counts = begins.the-last-cmp-counts
 
+pub no-request-above : NoRequestAbove
+no-request-above = runs.no-request-above
+
+pub no-request-above-the-station : NoRequestAboveTheStation
+no-request-above-the-station = offers.no-request-above-the-station
+
+pub never-above-the-maximum : NeverAboveTheMaximum
+never-above-the-maximum = runs.never-above-the-maximum
+
+pub not-above-the-station : NotAboveTheStation
+not-above-the-station = begins.not-above-the-station
+
 pub what-a-message-does : WhatAMessageDoes
 what-a-message-does = call.what-a-message-does
 
@@ -131,18 +143,6 @@ demand-2 = runs.demand-2
 
 pub any-calls-can-be-made : AnyCallsCanBeMade
 any-calls-can-be-made = promised.any-calls-can-be-made
-
-pub never-above-the-maximum : NeverAboveTheMaximum
-never-above-the-maximum = runs.never-above-the-maximum
-
-pub not-above-the-station : NotAboveTheStation
-not-above-the-station = begins.not-above-the-station
-
-pub no-request-above : NoRequestAbove
-no-request-above = runs.no-request-above
-
-pub no-request-above-the-station : NoRequestAboveTheStation
-no-request-above-the-station = offers.no-request-above-the-station
 
 pub the-worked-rows : TheWorkedRows
 the-worked-rows = rows.worked-rows

@@ -239,6 +239,34 @@ TheLastCmpCounts =
     (ms : List CallMade) (c : Controller) (accepted : Bool) (maximum : TenthAmps) → AfterCalls ms c
     → c .session .state ≡ Ready accepted maximum → OfOffer (c .settings) (lastTaken ms) accepted maximum
 
+-- "no ECR frame of any run asks more than the settings' maximum current, nor in Hold more than the maximum pack
+-- voltage, told by the bytes sent"
+abbrev pub NoRequestAbove : Type 0
+NoRequestAbove =
+    (ms : List CallMade) (c : Controller) (r : Readings) (v : List ℕ) (t : List ℤ) (old new : List ℕ) (k : Ticked)
+    → AfterCalls ms c → NextCall c (DidTick r v t old new k)
+    → AllAskWithin (c .settings) (framesWritten (k .bytes) new)
+
+-- nor a current above the maximum that the last CMP taken offers, told by the bytes sent
+abbrev pub NoRequestAboveTheStation : Type 0
+NoRequestAboveTheStation =
+    (ms : List CallMade) (c : Controller) (r : Readings) (v : List ℕ) (t : List ℤ) (old new : List ℕ) (k : Ticked)
+    → AfterCalls ms c → NextCall c (DidTick r v t old new k)
+    → AllAskWithinOffer (lastTaken ms) (framesWritten (k .bytes) new)
+
+-- "what a session asks for is never above the maximum current of the settings in use"
+abbrev pub NeverAboveTheMaximum : Type 0
+NeverAboveTheMaximum =
+    (ms : List CallMade) (c : Controller) → AfterCalls ms c
+    → requestIn (c .session .state) ≤ c .settings .limits .current .0
+
+-- "R is the smaller of maximum current and the station's maximum": what a session in Charging asks for is never above
+-- the maximum that the last CMP taken offers
+abbrev pub NotAboveTheStation : Type 0
+NotAboveTheStation =
+    (ms : List CallMade) (c : Controller) → AfterCalls ms c → isCharging (c .session .state) ≡ true
+    → WithinOffer (lastTaken ms) (requestIn (c .session .state))
+
 -- "What each message does in each state, when it comes from the session's own station (in Idle: from a station of the
 -- settings' list)": the number and the session's record are those of the table `outcomeOf`, and nothing else changes
 abbrev pub WhatAMessageDoes : Type 0
@@ -386,34 +414,6 @@ pub record CanBeMade (bytes : List ℕ) (ks : List Call) : Type 0 where
 
 abbrev pub AnyCallsCanBeMade : Type 0
 AnyCallsCanBeMade = (bytes : List ℕ) (x : Settings) (ks : List Call) → readOf bytes ≡ read.Read x → CanBeMade bytes ks
-
--- "what a session asks for is never above the maximum current of the settings in use"
-abbrev pub NeverAboveTheMaximum : Type 0
-NeverAboveTheMaximum =
-    (ms : List CallMade) (c : Controller) → AfterCalls ms c
-    → requestIn (c .session .state) ≤ c .settings .limits .current .0
-
--- "R is the smaller of maximum current and the station's maximum": what a session in Charging asks for is never above
--- the maximum that the last CMP taken offers
-abbrev pub NotAboveTheStation : Type 0
-NotAboveTheStation =
-    (ms : List CallMade) (c : Controller) → AfterCalls ms c → isCharging (c .session .state) ≡ true
-    → WithinOffer (lastTaken ms) (requestIn (c .session .state))
-
--- "no ECR frame of any run asks more than the settings' maximum current, nor in Hold more than the maximum pack
--- voltage, told by the bytes sent"
-abbrev pub NoRequestAbove : Type 0
-NoRequestAbove =
-    (ms : List CallMade) (c : Controller) (r : Readings) (v : List ℕ) (t : List ℤ) (old new : List ℕ) (k : Ticked)
-    → AfterCalls ms c → NextCall c (DidTick r v t old new k)
-    → AllAskWithin (c .settings) (framesWritten (k .bytes) new)
-
--- and as sent: nor does any ECR in the buffer of the next tick ask more, told by its bytes
-abbrev pub NoRequestAboveTheStation : Type 0
-NoRequestAboveTheStation =
-    (ms : List CallMade) (c : Controller) (r : Readings) (v : List ℕ) (t : List ℤ) (old new : List ℕ) (k : Ticked)
-    → AfterCalls ms c → NextCall c (DidTick r v t old new k)
-    → AllAskWithinOffer (lastTaken ms) (framesWritten (k .bytes) new)
 
 -- "the rows marked P, as one table under a single statement"; "each number behind a name is the paper's"
 abbrev pub TheWorkedRows : Type 0
