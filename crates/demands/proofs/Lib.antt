@@ -48,4 +48,6 @@ pub mod BeginsCharge
 pub mod Closing
 pub mod EcrSent
 pub mod OfferSent
+pub mod EcpSent
+pub mod EcpExactly
 pub mod Statements
