@@ -49,5 +49,4 @@ pub mod Closing
 pub mod EcrSent
 pub mod OfferSent
 pub mod EcpSent
-pub mod EcpExactly
 pub mod Statements

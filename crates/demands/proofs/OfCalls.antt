@@ -38,7 +38,7 @@ use Rattle.demands.specs.After.{accepts, after, noSession}
 use Rattle.demands.specs.Apart.{Alike}
 use Rattle.demands.specs.Over.{Opens, Ignored}
 use Rattle.demands.specs.GoneOut.{Watch, isHere, sends, takes, goesOn, goneAfter, gone, isReadyYes, eim, ecp, erm, est}
-use Rattle.demands.specs.Statements.{NextCall, hasGone, WhatEndsASession, EachEndsASession, EstGone, EarlyAcknowledgement, WhatEndsACharge, EachEndsACharge, WhatARefusedTickDoes, WhatATickDoesInIdle, Over, EachOpens, ReplayedAcknowledgement, CvmTaken, CmpTaken, CrmTaken, Unreached, EimGone, EcpGone, ErmGone, WhatAMessageDoes, WhatATickSends}
+use Rattle.demands.specs.Statements.{NextCall, hasGone, WhatEndsASession, EachEndsASession, EstGone, EarlyAcknowledgement, WhatEndsACharge, EachEndsACharge, WhatARefusedTickDoes, WhatATickDoesInIdle, Over, EachOpens, ReplayedAcknowledgement, CvmTaken, CmpTaken, CrmTaken, Unreached, EimGone, ErmGone, WhatAMessageDoes, WhatATickSends, EcpGone}
 use Rattle.demands.proofs.Steps.{kind-folds, idle-folds}
 use Rattle.demands.proofs.Demand2.{frame-in-step}
 use Rattle.demands.proofs.StepsMade.{codeStep, Behind, behind, its-own, use-is, steps-from-start}
@@ -49,6 +49,7 @@ use Rattle.demands.proofs.Calls.{left-in-the-buffer}
 use Rattle.demands.proofs.Comes.{says-taken}
 use Rattle.demands.proofs.Over as idle
 use Rattle.demands.proofs.GoneOut as out
+use Rattle.demands.proofs.EcpSent.{ecp-exactly}
 use Rattle.demands.proofs.Apart as apart
 use Rattle.demands.proofs.Demand1.{demand-1}
 
@@ -192,12 +193,12 @@ erm-gone ms c a h =
     ∙ (out.erm-told (callsIn ms) (b .paper) (b .run) (in-state ms c a isReadyYes yes-folds h) ∙ sym (gone-made erm erm-same ms c a))
 
 pub ecp-gone : EcpGone
-ecp-gone ms c a h g =
+ecp-gone ms c a h =
     let b : Behind ms c = behind ms c a in
     let q = in-state ms c a isParameters parameters-folds h in
-    gone-made ecp ecp-same ms c a
-    ∙ out.ecp-told (callsIn ms) (b .paper) (b .run) q
-    (sym (ecp-kept (b .paper .session .state) (b .paper .session .count) q) ∙ (ap (ltb firstEcp) (sym (count-behind ms c a)) ∙ g))
+    ap (ltb firstEcp) (count-behind ms c a)
+    ∙ (ecp-kept (b .paper .session .state) (b .paper .session .count) q
+    ∙ (ecp-exactly (callsIn ms) (b .paper) (b .run) q ∙ sym (gone-made ecp ecp-same ms c a)))
 
 -- ---- what ends a session, and what ends a charge
 over-use : (ms : List CallMade) (c : Controller) (m : CallMade) → AfterCalls ms c → NextCall c m

@@ -106,7 +106,7 @@ EimGone =
 abbrev pub EcpGone : Type 0
 EcpGone =
     (ms : List CallMade) (c : Controller) → AfterCalls ms c
-    → isParameters (c .session .state) ≡ true → sinceFirstEcp (c .session .count) ≡ true → hasGone ecp ms ≡ true
+    → isParameters (c .session .state) ≡ true → sinceFirstEcp (c .session .count) ≡ hasGone ecp ms
 
 abbrev pub ErmGone : Type 0
 ErmGone =
