@@ -50,4 +50,5 @@ pub mod EcrSent
 pub mod OfferSent
 pub mod EcpSent
 pub mod EcpExactly
+pub mod Acknowledged
 pub mod Statements
