@@ -49,4 +49,5 @@ pub mod Closing
 pub mod EcrSent
 pub mod OfferSent
 pub mod EcpSent
+pub mod Acknowledged
 pub mod Statements

@@ -26,3 +26,4 @@ pub mod GoneOut
 pub mod Offers
 pub mod Closing
 pub mod Statements
+pub mod Witness
