@@ -25,7 +25,7 @@ use Rattle.replay_host.specs.Host.{Keeps, Outcome, keepsOf, Comes, only,
 use Rattle.replay_host.specs.Lines.{World, Carried, worldOf, andThen, loggedDone, loggedBuffer, loggedClock}
 use Rattle.replay_host.specs.Lines.{callsDone, callsBuffer, clockAfter, carriedOut, lineRead, lineDone, linesUpTo}
 use Rattle.replay_host.specs.Lines.{linesDone, CarriesOut}
-use Rattle.replay_host.specs.Ticks.{nextNumber}
+use Rattle.replay_calls.specs.Counts.{nextNumber}
 use Rattle.replay_host.specs.declared.held.Held.the-variants.{None, Of}
 use Rattle.replay_host.specs.declared.held.Held.{Held}
 use Rattle.replay_host.specs.declared.held.Kept.{Kept}

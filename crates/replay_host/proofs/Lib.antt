@@ -1,4 +1,3 @@
-pub mod Parts
 pub mod Outcomes
 pub mod Ticking
 pub mod Carrying

@@ -15,7 +15,7 @@ use Rattle.replay_print.specs.Out.{Prints}
 use Rattle.settings.specs.Write.{writtenOf}
 use Rattle.settings.specs.declared.Settings.{Settings}
 use Rattle.settings.specs.declared.Written.{Written}
-use Rattle.replay_host.specs.Calls.{bufferWritten, WriteLent}
+use Rattle.replay_calls.specs.Calls.{bufferWritten, WriteLent}
 use Rattle.replay_host.specs.Host.{Keeps, Outcome, keepsOf, Comes, only, first, entered, isNone, startDone}
 use Rattle.replay_host.specs.Host.{settingsDone, answerDone, frameFor, frameDone, writtenDone, writeFor}
 use Rattle.replay_host.specs.Host.{writeDone, writeBuffer, absentFor, absentDone}

@@ -12,7 +12,7 @@ use Rattle.controller.specs.declared.Ticked.{Ticked}
 use Rattle.replay_print.proofs.Laws.{laid-append}
 use Rattle.replay_print.specs.Out.{Output, outOf, laidOf}
 use Rattle.replay_script.specs.declared.lent.Lent.{Lent}
-use Rattle.replay_host.specs.Calls.{tickAccepted, tickSent, tickAnswer, bufferTicked, TickLent}
+use Rattle.replay_calls.specs.Calls.{tickAccepted, tickSent, tickAnswer, bufferTicked, TickLent}
 use Rattle.replay_host.specs.Host.{Keeps, keepsOf, Comes, only, first, isNone}
 use Rattle.replay_host.specs.Ticks.{tickedDone, tickFor, tickDone, tickBuffer, ticksDone, ticksBuffer}
 use Rattle.replay_host.specs.declared.held.Held.the-variants.{None, Of}

@@ -19,7 +19,7 @@ use Rattle.replay_print.specs.Standings.{standingOf, idleStanding, changedText}
 use Rattle.replay_host.specs.declared.held.Held.{Held}
 use Rattle.replay_host.specs.declared.held.Held.the-variants.{None, Of}
 use Rattle.replay_host.specs.declared.held.Kept.{Kept}
-use Rattle.replay_host.specs.Calls.{bufferWritten}
+use Rattle.replay_calls.specs.Calls.{bufferWritten}
 
 -- what is kept, but for the output: the controller in use, once there is one, and the ticks that it has accepted
 pub record Keeps : Type 0 where

@@ -1,4 +1,3 @@
-pub mod Calls
 pub mod Host
 pub mod Ticks
 pub mod Lines

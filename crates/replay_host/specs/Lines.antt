@@ -20,7 +20,8 @@ use Rattle.replay_print.specs.Out.{Prints}
 use Rattle.replay_host.specs.declared.lines.Run.{Run}
 use Rattle.replay_host.specs.Host.{Keeps, Outcome, keepsOf, only, first, startKept, absentDone, settingsDone}
 use Rattle.replay_host.specs.Host.{frameDone, writeDone, writeBuffer, unreadableDone}
-use Rattle.replay_host.specs.Ticks.{nextNumber, ticksDone, ticksBuffer}
+use Rattle.replay_host.specs.Ticks.{ticksDone, ticksBuffer}
+use Rattle.replay_calls.specs.Counts.{nextNumber}
 
 -- all that a run has from line to line, but for the output: what is kept, what ticks are lent, a log's clock, the
 -- line's number, the bytes that a line gave, the two tables of cells and the buffer

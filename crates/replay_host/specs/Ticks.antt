@@ -1,8 +1,8 @@
 -- Ticks, one after the other: what each makes of what is kept and of the buffer, and what it prints.
-use Prim.Native.Nat.{ℕ, zero, suc, _+_}
-use mathlib.Core.Bool.{Bool, true, false, cond}
+use Prim.Native.Nat.{ℕ, zero, suc}
+use mathlib.Core.Bool.{cond}
 use mathlib.Core.List.{List, []}
-use lib.Dec.{eqb, ltb}
+use lib.Dec.{eqb}
 use lib.IntN.{ℤ}
 use lib.ListN.{take}
 use Rattle.controller.specs.declared.Ticked.{Ticked}
@@ -11,16 +11,9 @@ use Rattle.replay_print.specs.Answers.{tickLine}
 use Rattle.replay_print.specs.Frames.{sentText}
 use Rattle.replay_host.specs.declared.held.Held.{Held}
 use Rattle.replay_host.specs.declared.held.Held.the-variants.{None, Of}
-use Rattle.replay_host.specs.Calls.{tickAnswer, bufferTicked}
+use Rattle.replay_calls.specs.Calls.{tickAnswer, bufferTicked}
+use Rattle.replay_calls.specs.Counts.{countAfter}
 use Rattle.replay_host.specs.Host.{Keeps, Outcome, only, first, entered}
-
--- the next number; the last of 64 bits stays
-unfoldable pub nextNumber : ℕ → ℕ
-nextNumber n = cond (ltb n 0xffff_ffff_ffff_ffff) (n + 1) n
-
--- the ticks accepted after one that was answered a number: only one that is accepted counts
-unfoldable pub countAfter : ℕ → ℕ → ℕ
-countAfter number count = cond (eqb number 0) (nextNumber count) count
 
 -- what a tick prints: an accepted one its frames, which are the first n bytes of the buffer, with the number of ticks
 -- accepted before it for their time; a refused one its number

@@ -4,7 +4,7 @@ ghost use Rattle.replay_host.specs.Host.{Comes};
 ghost use Rattle.replay_host.specs.Lines.{worldOf, startRun, callsDone, callsBuffer};
 ghost use Rattle.replay_host.specs.Lines.{clockAfter, carriedOut, linesDone, CarriesOut};
 use crate::held::Kept;
-use crate::ticks;
+use replay_calls::counts;
 use replay_print::Buffer;
 use replay_print::out::Out;
 use replay_script::Asked;
@@ -141,7 +141,7 @@ pub fn carry_out_lines(
         }
         let end = lines::line_end(text, at);
         let asked = replay_script::read_line(text, at, end, bytes, v, t);
-        r.number = ticks::next(r.number);
+        r.number = counts::next(r.number);
         r = r.carry_out(asked, bytes, v, t, buf, o);
         at = end + 1;
     }

@@ -2,32 +2,19 @@
 ghost use mathlib.Core.Path.{_≡_};
 ghost use Rattle.replay_print.specs.Out.{Prints};
 ghost use Rattle.replay_host.specs.Host.{keepsOf, Comes};
-ghost use Rattle.replay_host.specs.Ticks.{nextNumber, countAfter, tickText, tickedDone};
+ghost use Rattle.replay_host.specs.Ticks.{tickText, tickedDone};
 ghost use Rattle.replay_host.specs.Ticks.{tickDone, tickBuffer, ticksDone, ticksBuffer};
-use crate::calls;
 use crate::held::Held;
 use crate::held::Kept;
 use controller::Ticked;
+use replay_calls::calls;
+use replay_calls::counts;
 use replay_print::Buffer;
 use replay_print::answers;
 use replay_print::out::Out;
 use replay_script::lent::Lent;
 use replay_script::lent::Temperatures;
 use replay_script::lent::Voltages;
-
-// The next number; the last of all stays.
-pub fn next(n: u64) -> u64
-    ensures { λ r. ⌜ r ≡ nextNumber n ⌝ }
-{
-    if n < u64::MAX { n + 1 } else { n }
-}
-
-// The ticks accepted after one that was answered a number: only one that is accepted counts.
-fn counted(number: u8, count: u64) -> u64
-    ensures { λ r. ⌜ r ≡ countAfter number count ⌝ }
-{
-    if number == 0 { next(count) } else { count }
-}
 
 // What a tick was answered and sent: the frames of one that is accepted, which are the first n bytes of the buffer, or
 // the number of one that is refused.
@@ -49,7 +36,7 @@ impl Kept {
         let later = x.controller;
         let count = self.accepted;
         let at = print(o, self.out, x.number, x.bytes, count, buf);
-        self.with(later, counted(x.number, count), o, at)
+        self.with(later, counts::counted(x.number, count), o, at)
     }
 
     // One tick; none where there is no controller.

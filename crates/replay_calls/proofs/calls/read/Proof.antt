@@ -1,9 +1,9 @@
--- `replay_host::calls::read` meets its contract. Assumes nothing.
+-- `replay_calls::calls::read` meets its contract. Assumes nothing.
 use borrow.Author.Needs.{needs}
 use denote.Ref.{now}
-use Rattle.replay_host.proofs.Parts.{take-least}
-use Rattle.replay_host.proofs.calls.read.Statement.{statement}
-use Rattle.replay_host.proofs.calls.read.Tie as tie
+use Rattle.replay_calls.proofs.Parts.{take-least}
+use Rattle.replay_calls.proofs.calls.read.Statement.{statement}
+use Rattle.replay_calls.proofs.calls.read.Tie as tie
 
 least-requires : tie.Need-least-requires
 least-requires c κs = search needs

@@ -18,7 +18,7 @@ use Rattle.replay_script.specs.declared.lent.Lent.{Lent}
 use Rattle.settings.specs.Write.{Wrote}
 use Rattle.settings.specs.declared.Settings.{Settings}
 use Rattle.settings.specs.declared.Written.{Written}
-use Rattle.replay_host.specs.Calls.{leastOf, TickLent, WriteLent}
+use Rattle.replay_calls.specs.Calls.{leastOf, TickLent, WriteLent}
 
 module _ {A : Type 0} where
   drop-past : (n : ℕ) (s : List A) → length s ≤ n → drop n s ≡ []

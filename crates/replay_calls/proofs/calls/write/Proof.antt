@@ -1,9 +1,9 @@
--- `replay_host::calls::write` meets its contract. Assumes nothing.
+-- `replay_calls::calls::write` meets its contract. Assumes nothing.
 use borrow.Author.Needs.{needs}
 use denote.Ref.{now}
-use Rattle.replay_host.proofs.Parts.{write-lent}
-use Rattle.replay_host.proofs.calls.write.Statement.{statement}
-use Rattle.replay_host.proofs.calls.write.Tie as tie
+use Rattle.replay_calls.proofs.Parts.{write-lent}
+use Rattle.replay_calls.proofs.calls.write.Statement.{statement}
+use Rattle.replay_calls.proofs.calls.write.Tie as tie
 
 least-requires : tie.Need-least-requires
 least-requires c κs = search needs

@@ -1,9 +1,9 @@
--- `replay_host::ticks::next` meets its contract. Assumes nothing.
+-- `replay_calls::counts::next` meets its contract. Assumes nothing.
 use borrow.Author.Needs.{needs}
 use borrow.Author.Tests.{lt-ltb, le-ltb}
-use Rattle.replay_host.specs.Ticks.{nextNumber}
-use Rattle.replay_host.proofs.ticks.next.Statement.{statement}
-use Rattle.replay_host.proofs.ticks.next.Tie as tie
+use Rattle.replay_calls.specs.Counts.{nextNumber}
+use Rattle.replay_calls.proofs.counts.next.Statement.{statement}
+use Rattle.replay_calls.proofs.counts.next.Tie as tie
 
 add-result : tie.Need-add-result
 add-result c = search needs

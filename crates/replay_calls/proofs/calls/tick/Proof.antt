@@ -1,9 +1,9 @@
--- `replay_host::calls::tick` meets its contract. Assumes nothing.
+-- `replay_calls::calls::tick` meets its contract. Assumes nothing.
 use borrow.Author.Needs.{needs}
 use denote.Ref.{now}
-use Rattle.replay_host.proofs.Parts.{tick-lent}
-use Rattle.replay_host.proofs.calls.tick.Statement.{statement}
-use Rattle.replay_host.proofs.calls.tick.Tie as tie
+use Rattle.replay_calls.proofs.Parts.{tick-lent}
+use Rattle.replay_calls.proofs.calls.tick.Statement.{statement}
+use Rattle.replay_calls.proofs.calls.tick.Tie as tie
 
 least-requires : tie.Need-least-requires
 least-requires c κs = search needs

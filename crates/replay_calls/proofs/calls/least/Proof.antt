@@ -1,8 +1,8 @@
--- `replay_host::calls::least` meets its contract. Assumes nothing.
+-- `replay_calls::calls::least` meets its contract. Assumes nothing.
 use native.Mathlib.Omega.{arith}
 use borrow.Author.Tests.{lt-ltb, le-ltb}
-use Rattle.replay_host.proofs.calls.least.Statement.{statement}
-use Rattle.replay_host.proofs.calls.least.Tie as tie
+use Rattle.replay_calls.proofs.calls.least.Statement.{statement}
+use Rattle.replay_calls.proofs.calls.least.Tie as tie
 
 returns : tie.Need-returns
 returns c = (omega arith, rw (lt-ltb _ _ (c .if1 .taken)))

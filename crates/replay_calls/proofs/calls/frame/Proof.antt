@@ -1,9 +1,9 @@
--- `replay_host::calls::frame` meets its contract. Assumes nothing.
+-- `replay_calls::calls::frame` meets its contract. Assumes nothing.
 use borrow.Author.Needs.{needs}
 use denote.Ref.{now}
-use Rattle.replay_host.proofs.Parts.{take-least}
-use Rattle.replay_host.proofs.calls.frame.Statement.{statement}
-use Rattle.replay_host.proofs.calls.frame.Tie as tie
+use Rattle.replay_calls.proofs.Parts.{take-least}
+use Rattle.replay_calls.proofs.calls.frame.Statement.{statement}
+use Rattle.replay_calls.proofs.calls.frame.Tie as tie
 
 least-requires : tie.Need-least-requires
 least-requires c κs = search needs

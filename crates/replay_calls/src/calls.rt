@@ -5,7 +5,7 @@ ghost use Prim.Native.Nat.{_≤_};
 ghost use lib.ListN.{take};
 ghost use Rattle.controller.specs.Start.{ReadIs};
 ghost use Rattle.controller.specs.Frame.{FrameIs};
-ghost use Rattle.replay_host.specs.Calls.{leastOf, TickLent, WriteLent};
+ghost use Rattle.replay_calls.specs.Calls.{leastOf, TickLent, WriteLent};
 use controller::Answer;
 use controller::Controller;
 use controller::Start;

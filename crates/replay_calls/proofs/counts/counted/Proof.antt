@@ -1,9 +1,9 @@
--- `replay_host::ticks::counted` meets its contract. Assumes nothing.
+-- `replay_calls::counts::counted` meets its contract. Assumes nothing.
 use borrow.Author.Needs.{needs}
 use borrow.Author.Tests.{eq-eqb, ne-eqb}
-use Rattle.replay_host.specs.Ticks.{countAfter}
-use Rattle.replay_host.proofs.ticks.counted.Statement.{statement}
-use Rattle.replay_host.proofs.ticks.counted.Tie as tie
+use Rattle.replay_calls.specs.Counts.{countAfter}
+use Rattle.replay_calls.proofs.counts.counted.Statement.{statement}
+use Rattle.replay_calls.proofs.counts.counted.Tie as tie
 
 next-requires : tie.Need-next-requires
 next-requires c κs = search needs
