@@ -11,7 +11,7 @@ use Rattle.messages.specs.Identifier.{partsOf}
 use Rattle.settings.specs.declared.Settings.{Settings}
 use Rattle.settings.specs.Range.{within, goodStations, inRange, limitsInRange}
 use Rattle.charge_messages.specs.declared.Offer.{Offer}
-use Rattle.charge_messages.specs.declared.ChargeMessage.the-variants.{Cim, Cvm, Cmp, Crm}
+use Rattle.charge_messages.specs.declared.ChargeMessage.the-variants.{Cim, Cvm, Cmp, Crm, Cst}
 use Rattle.charge_messages.specs.Content.{contentOf}
 use Rattle.session_by_message.specs.Offer.{acceptedOf}
 use Rattle.controller.specs.Start.{freshOf}
@@ -62,6 +62,9 @@ cimData = 0x01 ∷ 0x01 ∷ 0x00 ∷ []
 abbrev cmpData : List ℕ
 cmpData = 0xe8 ∷ 0x03 ∷ 0x00 ∷ 0x00 ∷ 0xd0 ∷ 0x07 ∷ 0xa0 ∷ 0x0f ∷ []
 
+abbrev pub cstData : List ℕ
+cstData = 0x00 ∷ 0x00 ∷ 0xaa ∷ []
+
 abbrev lowData : List ℕ
 lowData = 0xf4 ∷ 0x01 ∷ 0x00 ∷ 0x00 ∷ 0xd0 ∷ 0x07 ∷ 0xa0 ∷ 0x0f ∷ []
 
@@ -86,6 +89,7 @@ record AllSay : Type 0 where
   low : Says ours 0x56 (Cmp lowOffer) 0x1808_f456 lowData
   crm-ff : Says ours 0x56 (Crm false) 0x180a_f456 (0xff ∷ [])
   crm-aa : Says ours 0x56 (Crm true) 0x180a_f456 (0xaa ∷ [])
+  cst : Says ours 0x56 (Cst true) 0x1816_f456 cstData
 
 all-say : AllSay
 unfolding messageIn longEnough notCan flagsSet notForUs badSource partsOf contentOf
@@ -98,7 +102,11 @@ all-say =
       low = record { checks = refl; source = refl; content = refl };
       crm-ff = record { checks = refl; source = refl; content = refl };
       crm-aa = record { checks = refl; source = refl; content = refl };
+      cst = record { checks = refl; source = refl; content = refl };
     }
+
+pub says-cst : Says ours 0x56 (Cst true) 0x1816_f456 cstData
+says-cst = all-say .cst
 
 pub says-cim : Says ours 0x56 Cim 0x1826_f456 cimData
 says-cim = all-say .cim
@@ -129,7 +137,7 @@ abbrev tick : Call
 tick = Tick quietReadings (330 ∷ []) (pos 20 ∷ []) (zeros 117)
 
 -- after the CIM that opened the session: eight ticks
-pub eight : List Call
+unfoldable pub eight : List Call
 eight = tick ∷ cvm-aa ∷ tick ∷ tick ∷ tick ∷ tick ∷ tick ∷ tick ∷ cmp ∷ tick ∷ crm-aa ∷ []
 
 on : (k : Stretch) (n b : ℕ) (es : List Call) → b < silenceLimit → Follows ours 0x56 offer k (n + 1) (b + 1) es

@@ -34,14 +34,45 @@ use Rattle.demands.proofs.Silent.{repeated, zeros, quietReadings, such-
 use Rattle.demands.proofs.SilentRun.{just-opened, tick, ticks-silent, ticks-many}
 use Rattle.demands.proofs.ReachRun.{ours, settings-good, offer, cim, eight}
 use Rattle.demands.proofs.ReachRun as run
-use Rattle.demands.proofs.OfRuns.{ends-made, silence-to, last-session}
+use Rattle.demands.proofs.OfRuns.{use-all, ends-made, silence-to}
 
 -- ---- the record
-ours-read : readOf (recordOf ours) ≡ read.Read ours
+pub ours-read : readOf (recordOf ours) ≡ read.Read ours
 ours-read = read-written ours settings-good
 
 fresh-in-use : AfterCalls (read-first (recordOf ours) ours ours-read ∷ []) (freshOf ours)
 fresh-in-use = after-record (recordOf ours) ours ours-read
+
+-- ---- calls made from the record of `ours` on
+module _ (ks : List Call) where
+  abbrev pub further : List CallMade
+  further = allPromised (freshOf ours) ks
+
+  abbrev pub all : List CallMade
+  all = read-first (recordOf ours) ours ours-read ∷ further
+
+  abbrev pub last : Controller
+  last = useLast (freshOf ours) further
+
+  pub all-made : AfterCalls all last
+  unfolding AllKeepPromises boxLast
+  all-made =
+      record {
+        kept = (
+          read-kept (recordOf ours) ours ours-read,
+          subst (λ (z : Box). AllKeepPromises z further) (sym (first-box (recordOf ours) ours ours-read))
+              (promises-kept ks (freshOf ours)),
+        );
+        inUse =
+            ap (λ (z : Box). boxLast z further) (first-box (recordOf ours) ours ours-read)
+            ∙ last-use (freshOf ours) further;
+      }
+
+  pub last-is : last ≡ codeOf (afterAll (freshOf ours) ks)
+  last-is =
+      use-all further (freshOf ours) (freshOf ours)
+      (its-own _ (freshOf ours) (after-record (recordOf ours) ours ours-read)) (promises-kept ks (freshOf ours))
+      ∙ ap (λ (l : List Call). codeOf (afterAll (freshOf ours) l)) (promised-calls ks (freshOf ours))
 
 -- ---- the CIM
 abbrev cim-made : CallMade
@@ -98,28 +129,10 @@ eight-hundred-are-not-enough h =
 
 -- ---- eight ticks
 abbrev handshake : List CallMade
-handshake = allPromised (freshOf ours) (cim ∷ eight)
-
-shake-kept : AllKeepPromises (Using (freshOf ours)) handshake
-shake-kept = promises-kept (cim ∷ eight) (freshOf ours)
+handshake = further (cim ∷ eight)
 
 the-shake : callsIn handshake ≡ cim ∷ eight
 the-shake = promised-calls (cim ∷ eight) (freshOf ours)
-
-from-start : AfterCalls (read-first (recordOf ours) ours ours-read ∷ handshake) (useLast (freshOf ours) handshake)
-unfolding AllKeepPromises boxLast
-from-start =
-    record {
-      kept = (
-        read-kept (recordOf ours) ours ours-read,
-        subst (λ (z : Box). AllKeepPromises z handshake) (sym (first-box (recordOf ours) ours ours-read)) shake-kept,
-      );
-      inUse = ap (λ (z : Box). boxLast z handshake) (first-box (recordOf ours) ours ours-read) ∙ last-use (freshOf ours) handshake;
-    }
-
-charging-state : (s : Session) → folds s .state ≡ foldState (s .state)
-unfolding folds
-charging-state s = refl
 
 is-charging : isCharging (folds (chargingWith ours 0x56 offer) .state) ≡ true
 unfolding folds foldState isCharging
@@ -133,17 +146,18 @@ calls-with-record : callsIn (read-first (recordOf ours) ours ours-read ∷ hands
 unfolding callsIn callIn read-first
 calls-with-record = refl
 
+last-session-is : last (cim ∷ eight) .session ≡ folds (afterAll (freshOf ours) (cim ∷ eight) .session)
+unfolding codeOf
+last-session-is = ap (λ (z : Controller). z .session) (last-is (cim ∷ eight))
+
 pub eight-are-enough : EightAreEnough
 eight-are-enough =
     record {
-      calls = read-first (recordOf ours) ours ours-read ∷ handshake;
-      controller = useLast (freshOf ours) handshake;
-      made = from-start;
+      calls = all (cim ∷ eight);
+      controller = last (cim ∷ eight);
+      made = all-made (cim ∷ eight);
       charging =
-          ap (λ (s : Session). isCharging (s .state))
-          (last-session _ (freshOf ours) handshake fresh-in-use shake-kept
-          ∙ ap folds (ap (λ (l : List Call). afterAll (freshOf ours) l .session) the-shake ∙ run.eight-are-enough .1))
-          ∙ is-charging;
+          ap (λ (s : Session). isCharging (s .state)) (last-session-is ∙ ap folds (run.eight-are-enough .1)) ∙ is-charging;
       ticks =
           ap ticksIn calls-with-record
           ∙ (ticks-with-record (recordOf ours) (callsIn handshake) ∙ (ap ticksIn the-shake ∙ run.eight-are-enough .0));

@@ -345,7 +345,7 @@ module _ (r : Readings) (v : List ℕ) (t : List ℤ) (old : List ℕ) (taken : 
   not-within-800 c a n h = lives-offered 800 c a 0 n h (omega arith) (omega arith)
 
 -- there is such a tick: one cell of 3.30 V at 20 F, a buffer of 117 bytes, all readings 0 but 80 hex in status byte two
-pub zeros : ℕ → List ℕ
+unfoldable pub zeros : ℕ → List ℕ
 zeros zero = []
 zeros (suc n) = 0 ∷ zeros n
 

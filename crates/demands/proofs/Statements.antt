@@ -1,6 +1,7 @@
 -- Every statement of specs/Statements.antt and its theorem, in the statements' order. Assumes nothing.
-use Rattle.demands.specs.Statements.{WhatEndsASession, EachEndsASession, EstGone, EimGone, EcpGone, ErmGone, EarlyAcknowledgement, WhatEndsACharge, EachEndsACharge, EstEachTick, ClosingEnds, WhatATickDoes, WhatATickSends, WhatARefusedTickDoes, WhatATickDoesInIdle, Over, EachOpens, ReplayedAcknowledgement, CvmTaken, CmpTaken, CrmTaken, WhatBeginsACharge, TheLastCmpCounts, NoRequestAbove, NoRequestAboveTheStation, NeverAboveTheMaximum, NotAboveTheStation, WhatAMessageDoes, Undisturbed, Unreached, Unmoved, Within801, EightHundredAreNotEnough, SilentStation, CimHoldsNothing, CrmHoldsNothing, ReachesCharging, FromCimToCharging, NoSooner, EightAreEnough, Demand1, TheNumbers, Demand2, AnyCallsCanBeMade, TheWorkedRows, ThePapersNumbers}
+use Rattle.demands.specs.Statements.{WhatEndsASession, EachEndsASession, EstGone, EimGone, EcpGone, ErmGone, EarlyAcknowledgement, WhatEndsACharge, EachEndsACharge, EstEachTick, ClosingEnds, WhatATickDoes, WhatATickSends, WhatARefusedTickDoes, WhatATickDoesInIdle, Over, EachOpens, ReplayedAcknowledgement, CvmTaken, CmpTaken, CrmTaken, WhatBeginsACharge, TheLastCmpCounts, NoRequestAbove, NoRequestAboveTheStation, NeverAboveTheMaximum, NotAboveTheStation, WhatAMessageDoes, Undisturbed, Unreached, Unmoved, Within801, EightHundredAreNotEnough, SilentStation, CimHoldsNothing, CrmHoldsNothing, ReachesCharging, FromCimToCharging, NoSooner, EightAreEnough, Demand1, TheNumbers, Demand2, AnyCallsCanBeMade, AnAcknowledgedStop, TheWorkedRows, ThePapersNumbers}
 use Rattle.demands.proofs.OfCalls as call
+use Rattle.demands.proofs.Acknowledged as stop
 use Rattle.demands.proofs.TickOfCalls as ticks
 use Rattle.demands.proofs.OfRuns as runs
 use Rattle.demands.proofs.RunsMade as made
@@ -143,6 +144,9 @@ demand-2 = runs.demand-2
 
 pub any-calls-can-be-made : AnyCallsCanBeMade
 any-calls-can-be-made = promised.any-calls-can-be-made
+
+pub an-acknowledged-stop : AnAcknowledgedStop
+an-acknowledged-stop = stop.an-acknowledged-stop
 
 pub the-worked-rows : TheWorkedRows
 the-worked-rows = rows.worked-rows

@@ -26,4 +26,3 @@ pub mod GoneOut
 pub mod Offers
 pub mod Closing
 pub mod Statements
-pub mod Witness

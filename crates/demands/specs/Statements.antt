@@ -415,6 +415,28 @@ pub record CanBeMade (bytes : List ℕ) (ks : List Call) : Type 0 where
 abbrev pub AnyCallsCanBeMade : Type 0
 AnyCallsCanBeMade = (bytes : List ℕ) (x : Settings) (ks : List Call) → readOf bytes ≡ read.Read x → CanBeMade bytes ks
 
+-- "there is a run that ends by an acknowledged stop": calls from the start after which a session is in Stopping and an
+-- EST of ours has gone out since Stopping began; and a frame by which its station then says CST AA, which is taken and
+-- ends the session
+pub record AcknowledgedStop : Type 0 where
+  pub calls : List CallMade
+  pub controller : Controller
+  pub made : AfterCalls calls controller
+  pub stopping : isStopping (controller .session .state) ≡ true
+  pub gone : hasGone est calls ≡ true
+  -- the frame: its identifier, its bytes, and what it says
+  pub id : ℕ
+  pub bytes : List ℕ
+  pub says : Says (controller .settings) (controller .session .station) (Cst true) id bytes
+  -- what it is answered, as the entry point promises
+  pub answer : Answer
+  pub kept : KeepsPromise (Using controller) (DidReceive id bytes answer)
+  pub number : answer .number ≡ 0
+  pub over : noSession (answer .controller) ≡ true
+
+abbrev pub AnAcknowledgedStop : Type 0
+AnAcknowledgedStop = AcknowledgedStop
+
 -- "the rows marked P, as one table under a single statement"; "each number behind a name is the paper's"
 abbrev pub TheWorkedRows : Type 0
 TheWorkedRows = WorkedRows
