@@ -26,7 +26,7 @@ use Rattle.charge_messages.specs.declared.ChargeMessage.{ChargeMessage}
 use Rattle.session_states.specs.Limits.{firstEcp}
 use Rattle.session_states.specs.States.{isParameters}
 use Rattle.session_states.specs.declared.states.State.{State}
-use Rattle.session_states.specs.declared.states.State.the-variants.{Idle, Offered, Unverified, Parameters, Ready, Charging, Stopping, Error}
+use Rattle.session_states.specs.declared.states.State.the-variants.{Parameters}
 use Rattle.session_by_message.specs.declared.Outcome.{Outcome}
 use Rattle.session_by_message.specs.Message.{outcomeOf}
 use Rattle.session_by_tick.specs.declared.Turn.{Turn}
@@ -52,8 +52,8 @@ use Rattle.demands.proofs.FrameKinds.{pf-sent, Bytes, charge-frames-tol
 use Rattle.demands.proofs.Addresses.{BytesIn, run-bytes}
 use Rattle.demands.proofs.Comes.{Comes, Left, Took, came}
 use Rattle.demands.proofs.Outcomes.{outcome-leads}
-use Rattle.demands.proofs.GoneOutMoves.{place, Alike, AsItWas, OtherPhase, OtherMarks, stateAfter, state-is, kept-count, begun-from-elsewhere, Goes, GoesOn, Begins, Farewells, Ends, turn-goes, ages}
-use Rattle.demands.proofs.GoneOut.{ecp-told}
+use Rattle.demands.proofs.GoneOutMoves.{place, stateAfter, state-is, kept-count, begun-from-elsewhere, Goes, GoesOn, Begins, Farewells, Ends, turn-goes, ages}
+use Rattle.demands.proofs.GoneOut.{ecp-told, parameters-is, parameters-at, parameters-alike}
 
 -- ---- the frames
 module _ (x : Settings) (station : ℕ) (k : station < 256) (o : x .own < 256) where
@@ -102,28 +102,6 @@ not-before x r station n h = either (eqb n 0) (eqb (n % 10) firstEcp) refl h
     either false true e g = omega (arith, eqb-true (n % 10) firstEcp e)
     either false false e g = absurd (false≢true g)
 
--- ---- the state
-pub in-parameters : (st : State) → isParameters st ≡ true → st ≡ Parameters
-unfolding isParameters
-in-parameters Idle h = absurd (false≢true h)
-in-parameters Offered h = absurd (false≢true h)
-in-parameters Unverified h = absurd (false≢true h)
-in-parameters Parameters h = refl
-in-parameters (Ready y most) h = absurd (false≢true h)
-in-parameters (Charging p) h = absurd (false≢true h)
-in-parameters (Stopping k e) h = absurd (false≢true h)
-in-parameters Error h = absurd (false≢true h)
-
-at-three : (st : State) → isParameters st ≡ true → place st ≡ 3
-unfolding place
-at-three st h = ap place (in-parameters st h)
-
-alike : (st to : State) → Alike st to → isParameters st ≡ isParameters to
-unfolding isParameters
-alike st to AsItWas = refl
-alike st to OtherPhase = refl
-alike st to OtherMarks = refl
-
 -- ---- what is shown after each call: in Parameters, if one has gone out, the count is past the first
 abbrev Past : Bool → Session → Type 0
 Past g s = isParameters (s .state) ≡ true → g ≡ true → sinceFirstEcp (s .count) ≡ true
@@ -155,10 +133,10 @@ module _ (g t : Bool) (x : Settings) (source : ℕ) (s : Session) (h : Past g s)
   kept : isParameters (s .state) ≡ true → isParameters (sessionAfter source s o .state) ≡ true
       → sessionAfter source s o .count ≡ s .count
   kept q p =
-      let to : place (stateAfter (s .state) o) ≡ 3 = ap place (sym (state-is source s o)) ∙ at-three _ p in
+      let to : place (stateAfter (s .state) o) ≡ 3 = ap place (sym (state-is source s o)) ∙ parameters-at _ p in
       kept-count source s o
       (begun-from-elsewhere x (s .count) 3 (λ e. omega (arith, e)) (s .state) o
-      (outcome-leads x (s .count) (s .state) m) (at-three (s .state) q) to)
+      (outcome-leads x (s .count) (s .state) m) (parameters-at (s .state) q) to)
       (λ e. omega (arith, e, to))
 
   message-past : Past
@@ -176,11 +154,11 @@ module _ (x : Settings) (r : Readings) (k : Cells) where
     now = literalIn (withState u to) to
 
     is-now : isParameters (now .state) ≡ true → isParameters to ≡ true
-    is-now p = alike to (now .state) (ages u to .alike) ∙ p
+    is-now p = parameters-alike to (now .state) (ages u to .alike) ∙ p
 
     raised : isParameters (now .state) ≡ true → firstEcp ≤ u .count → sinceFirstEcp (now .count) ≡ true
     raised p l =
-        let n : now .count ≡ u .count + 1 = ages u to .count (λ e. omega (arith, e, at-three to (is-now p))) in
+        let n : now .count ≡ u .count + 1 = ages u to .count (λ e. omega (arith, e, parameters-at to (is-now p))) in
         lt-ltb firstEcp (now .count) (omega (arith, n, l))
 
     sent-late : isParameters (now .state) ≡ true
@@ -190,7 +168,7 @@ module _ (x : Settings) (r : Readings) (k : Cells) where
     sent-late p e =
         not-before x r (u .station) (u .count)
         (ap (λ (st : State). holds (isOurs ECP x (u .station)) (framesIn x r k (u .station) (u .count) st))
-        (sym (in-parameters to (is-now p)))
+        (sym (parameters-is to (is-now p)))
         ∙ (ap (λ (n : ℕ). holds (isOurs ECP x n) (framesIn x r k (u .station) (u .count) to))
         (sym (ages u to .station)) ∙ e))
 
@@ -211,7 +189,7 @@ module _ (x : Settings) (r : Readings) (k : Cells) where
         let u = begun s to in
         raised u to p
         (two-ways (isParameters (now u to .state)) (isParameters (s .state)) false g _ i
-        (λ q j. absurd (n (at-three (s .state) q ∙ sym (at-three to (is-now u to p))))) (sent-late u to p))
+        (λ q j. absurd (n (parameters-at (s .state) q ∙ sym (parameters-at to (is-now u to p))))) (sent-late u to p))
     turn-past turn.Farewell Farewells p i = absurd (false≢true p)
     turn-past turn.End Ends p i = absurd (false≢true p)
 

@@ -148,7 +148,7 @@ eim-law =
     }
 
 -- ---- Parameters: ECP
-parameters-is : (st : State) → isParameters st ≡ true → st ≡ Parameters
+pub parameters-is : (st : State) → isParameters st ≡ true → st ≡ Parameters
 unfolding isParameters
 parameters-is Idle h = absurd (false≢true h)
 parameters-is Offered h = absurd (false≢true h)
@@ -159,11 +159,11 @@ parameters-is (Charging p) h = absurd (false≢true h)
 parameters-is (Stopping k e) h = absurd (false≢true h)
 parameters-is Error h = absurd (false≢true h)
 
-parameters-at : (st : State) → isParameters st ≡ true → place st ≡ 3
+pub parameters-at : (st : State) → isParameters st ≡ true → place st ≡ 3
 unfolding place
 parameters-at st h = ap place (parameters-is st h)
 
-parameters-alike : (st to : State) → Alike st to → isParameters st ≡ isParameters to
+pub parameters-alike : (st to : State) → Alike st to → isParameters st ≡ isParameters to
 unfolding isParameters
 parameters-alike st to AsItWas = refl
 parameters-alike st to OtherPhase = refl
