@@ -25,7 +25,7 @@ use Rattle.session_states.specs.declared.states.Est.{Est}
 use Rattle.session_states.specs.declared.states.Est.the-variants.{Awaited, Fixed}
 use Rattle.session_states.specs.declared.states.State.{State}
 use Rattle.session_states.specs.declared.states.State.the-variants.{Idle, Offered, Unverified, Parameters, Ready, Charging, Stopping, Error}
-use Rattle.session_states.specs.States.{isIdle, isStopping}
+use Rattle.session_states.specs.States.{isIdle, isStopping, isClosing}
 use Rattle.session_by_message.specs.declared.Outcome.{Outcome}
 use Rattle.session_by_message.specs.declared.Outcome.the-variants as outcome
 use Rattle.session_by_message.specs.Message.{outcomeOf, inStopping, inError}
@@ -53,7 +53,6 @@ use Rattle.demands.specs.Apart.{sentAt}
 use Rattle.demands.specs.Unmoved.{besideAt}
 use Rattle.demands.specs.GoneOut.{holds, isOurs}
 use Rattle.demands.specs.Silent.{isAcceptedTick, ticksIn}
-use Rattle.demands.specs.Closing.{isClosing}
 use Rattle.demands.specs.Statements.{ClosingEnds, EstEachTick}
 use Rattle.demands.proofs.Tests.{or-left, or-right, same}
 use Rattle.demands.proofs.Comes.{Comes, Left, Took, came}

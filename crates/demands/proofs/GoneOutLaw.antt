@@ -7,10 +7,8 @@ use mathlib.Core.List.{List, [], _∷_, _++_}
 use lib.Dec.{eqb}
 use lib.IntN.{ℤ}
 use lib.ListN.{length}
-use borrow.Author.Tests.{ne-eqb}
 use Rattle.messages.specs.declared.received.Charge.{Charge}
 use Rattle.messages.specs.declared.received.Message.the-variants as message
-use Rattle.messages.specs.declared.received.Recognized.{Recognized}
 use Rattle.messages.specs.declared.received.Recognized.the-variants as recognized
 use Rattle.messages.specs.Identifier.{partsOf}
 use Rattle.messages.specs.Received.{recognizedOf}
@@ -41,14 +39,14 @@ use Rattle.controller.specs.Start.{freshOf, startWith, startOf}
 use Rattle.controller.specs.Frame.{frameTo, sessionMoved}
 use Rattle.controller.specs.Tick.{tickFrames, chargeFrames, broadcastFrames, cellFrames, accepted}
 use Rattle.demands.specs.Machine.{Call, Read, Receive, Tick, Write, Box, NoController, Using, Gave, paperNext, started, boxAfter, seenOf, boxAt, numberSeen, framesSeen}
-use Rattle.demands.specs.After.{chargeIn, isCharge}
+use Rattle.demands.specs.After.{isCharge}
 use Rattle.demands.specs.Says.{chargeOf}
 use Rattle.demands.specs.Steps.{Step, stepsOf}
 use Rattle.demands.specs.GoneOut.{Watch, isHere, holds, sends, isOneOf, takes, goesOn, goneAfter, gone}
 use Rattle.demands.proofs.View.{pf-is}
 use Rattle.demands.proofs.Comes.{Comes, Left, Took, came}
 use Rattle.demands.proofs.Outcomes.{outcome-leads}
-use Rattle.demands.proofs.GoneOutMoves.{place, Alike, begins, stateAfter, state-is, begun-at-0, kept-count, kept-state, Goes, GoesOn, Begins, Farewells, Ends, turn-goes, ages}
+use Rattle.demands.proofs.GoneOutMoves.{place, Alike, begins, stateAfter, state-is, begun-at-0, kept-count, kept-state, Goes, GoesOn, Begins, Farewells, Ends, turn-goes, ages, left-untaken}
 
 -- ---- of tests
 or-none : (a : Bool) → (a || false) ≡ a
@@ -189,18 +187,6 @@ module _ (w : Watch) (sure : State → Bool) (Told : ℕ → Bool → Type 0) (l
   AgreesIn before (Using c) = Agrees before (c .session)
 
   module _ (before : Bool) (c : Controller) (h : Agrees before (c .session)) where
-    -- a frame that leaves the session as it was is no charge message that was taken
-    left-untaken : (these : Charge → Bool) (a : Recognized) (n : ℕ) → (chargeIn a ≡ true → n ≡ 0 → ⊥)
-        → (isOneOf these a && eqb n 0) ≡ false
-    unfolding isOneOf chargeIn
-    left-untaken these (recognized.As (message.Charge k)) n f = rw (ne-eqb n 0 (f refl)) (and-none (these k))
-      where
-        and-none : (b : Bool) → (b && false) ≡ false
-        and-none true = refl
-        and-none false = refl
-    left-untaken these (recognized.As (message.Query q)) n f = refl
-    left-untaken these (recognized.Refused k) n f = refl
-
     frame-agrees : (id : ℕ) (l : List ℕ) (a : Answer) → Comes c id l a
         → Agrees (quiet before (c .session .state) (isOneOf (w .anew) (recognizedOf (partsOf id .pf)) && eqb (a .number) 0) (a .controller .session .state)) (a .controller .session)
     unfolding sessionMoved messageOf appliedOf isCharge isOneOf

@@ -3,8 +3,13 @@
 use Prim.Native.Nat.{ℕ, _+_}
 use native.Mathlib.Omega.{arith}
 use mathlib.Core.Path.{_≡_, refl, sym, _∙_}
-use mathlib.Core.Bool.{Bool, true, false, cond, false≢true}
-use lib.Dec.{leb}
+use mathlib.Core.Bool.{Bool, true, false, cond, _&&_, false≢true}
+use borrow.Author.Tests.{ne-eqb}
+use lib.Dec.{eqb, leb}
+use Rattle.messages.specs.declared.received.Charge.{Charge}
+use Rattle.messages.specs.declared.received.Message.the-variants as message
+use Rattle.messages.specs.declared.received.Recognized.{Recognized}
+use Rattle.messages.specs.declared.received.Recognized.the-variants as recognized
 use Rattle.settings.specs.declared.Settings.{Settings}
 use Rattle.readings.specs.declared.Readings.{Readings}
 use Rattle.readings.specs.Readings.{wantedOf}
@@ -27,6 +32,8 @@ use Rattle.session_paper_counts.specs.Literal.{literalIn, grown, counted}
 use Rattle.session.specs.declared.Session.{Session}
 use Rattle.session.specs.Session.{withState}
 use Rattle.session.specs.Message.{sessionAfter}
+use Rattle.demands.specs.After.{chargeIn}
+use Rattle.demands.specs.GoneOut.{isOneOf}
 use Rattle.demands.proofs.Outcomes.{Leads, NotTaken, NotInStep, DoesNothing, OpensOne, ToUnverified, ToParameters, ToParametersLater, ToReady, ToReadyAgain, ToCharging, ToStopping, MarksIt, EndsIt}
 
 -- which of the eight
@@ -212,3 +219,15 @@ ages s (Ready y most) = record { alike = AsItWas; count = λ h. refl; station = 
 ages s (Charging p) = record { alike = OtherPhase; count = λ h. refl; station = refl }
 ages s (Stopping k e) = record { alike = AsItWas; count = λ h. refl; station = refl }
 ages s Error = record { alike = AsItWas; count = λ h. refl; station = refl }
+
+-- ---- a frame that leaves the session as it was is no charge message that was taken
+and-none : (b : Bool) → (b && false) ≡ false
+and-none true = refl
+and-none false = refl
+
+pub left-untaken : (these : Charge → Bool) (a : Recognized) (n : ℕ) → (chargeIn a ≡ true → n ≡ 0 → ⊥)
+    → (isOneOf these a && eqb n 0) ≡ false
+unfolding isOneOf chargeIn
+left-untaken these (recognized.As (message.Charge k)) n f = rw (ne-eqb n 0 (f refl)) (and-none (these k))
+left-untaken these (recognized.As (message.Query q)) n f = refl
+left-untaken these (recognized.Refused k) n f = refl

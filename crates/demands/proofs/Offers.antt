@@ -9,11 +9,9 @@ use mathlib.Core.List.{List, [], _∷_}
 use lib.Dec.{eqb, leb}
 use lib.IntN.{ℤ}
 use lib.ListN.{length}
-use borrow.Author.Tests.{leb-true, ne-eqb}
 use Rattle.messages.specs.declared.received.Charge.{Charge}
 use Rattle.messages.specs.declared.received.Charge.the-variants as charge
 use Rattle.messages.specs.declared.received.Message.the-variants as message
-use Rattle.messages.specs.declared.received.Recognized.{Recognized}
 use Rattle.messages.specs.declared.received.Recognized.the-variants as recognized
 use Rattle.messages.specs.Identifier.{partsOf}
 use Rattle.messages.specs.Received.{recognizedOf}
@@ -54,20 +52,19 @@ use Rattle.controller.specs.Start.{freshOf, startWith, startOf}
 use Rattle.controller.specs.Frame.{frameTo, sessionMoved}
 use Rattle.controller.specs.Tick.{accepted}
 use Rattle.demands.specs.Machine.{Call, Read, Receive, Tick, Write, Box, NoController, Using, paperNext, started, boxAfter, seenOf, boxAt, numberSeen}
-use Rattle.demands.specs.After.{chargeIn, isCharge}
+use Rattle.demands.specs.After.{isCharge}
 use Rattle.demands.specs.Says.{chargeOf}
 use Rattle.demands.specs.Steps.{Step, stepsOf}
 use Rattle.demands.specs.Stops.{Why, GoesOn, AtSilenceLimit, NotWantedBefore, NotWantedCharging, CurrentAbove, PackFull, TimeUp, CellFull, AtClosingLimit, whyOf, ChargesAs, GoesOnAs, LeadsTo}
 use Rattle.demands.specs.GoneOut.{isOneOf, takes, isCmp}
 use Rattle.demands.specs.Requests.{requestOf, requestIn}
-use Rattle.demands.specs.Offers.{LastOffer, NoOffer, offerIn, offerOf, offerBy, offerAfter, offerThrough, lastOffer, OfOffer, WithinOffer}
-use Rattle.demands.specs.Offers as offers
+use Rattle.demands.specs.Offers.{LastOffer, NoOffer, offerIn, offerOf, offerBy, offerAfter, offerThrough, lastOffer, OfOffer, WithinOffer, LastWas}
 use Rattle.demands.proofs.View.{pf-is}
 use Rattle.demands.proofs.Comes.{Comes, Left, Took, came}
 use Rattle.demands.proofs.Outcomes.{Leads, NotTaken, NotInStep, DoesNothing, OpensOne, ToUnverified, ToParameters, ToParametersLater, ToReady, ToReadyAgain, ToCharging, ToStopping, MarksIt, EndsIt, outcome-leads}
-use Rattle.demands.proofs.Requests.{tick-asks}
+use Rattle.demands.proofs.Requests.{lesser-second, tick-asks}
 use Rattle.demands.proofs.Reasons.{tick-why}
-use Rattle.demands.proofs.GoneOutMoves.{stateAfter, state-is}
+use Rattle.demands.proofs.GoneOutMoves.{stateAfter, state-is, left-untaken}
 
 -- what is shown after each call, of settings, last offer and state
 unfoldable pub Held : Settings → LastOffer → State → Type 0
@@ -81,17 +78,13 @@ Held x l (Stopping k e) = Unit {0}
 Held x l Error = Unit {0}
 
 -- ---- the start of a charge: R is at most the station's maximum
-lesser-other : (a b : ℕ) (t : Bool) → leb a b ≡ t → cond t a b ≤ b
-lesser-other a b true h = leb-true a b h
-lesser-other a b false h = omega arith
-
 start-within : (maximum station : TenthAmps) → requestOf (startPhase maximum station) ≤ station .0
 unfolding startPhase requestOf
 start-within maximum station = either (tooSmall (lesserAmps maximum station))
   where
     either : (t : Bool) → requestOf (cond t (Hold 0) (Drive (lesserAmps maximum station) 1 0)) ≤ station .0
     either true = omega arith
-    either false = lesser-other (maximum .0) (station .0) (leb (maximum .0) (station .0)) refl
+    either false = lesser-second (maximum .0) (station .0) (leb (maximum .0) (station .0)) refl
 
 -- ---- a message
 unfoldable entersReady : Outcome → Bool
@@ -162,9 +155,9 @@ module _ (x : Settings) (n : ℕ) where
 
     -- a CMP
     abbrev lastAfter : Offer → Outcome → LastOffer
-    lastAfter o u = cond (eqb (outcomeNumber u) 0) (offers.Offered o) l
+    lastAfter o u = cond (eqb (outcomeNumber u) 0) (LastWas o) l
 
-    own-offer : (o : Offer) → OfOffer x (offers.Offered o) (acceptedOf x o) (stationMaximum o)
+    own-offer : (o : Offer) → OfOffer x (LastWas o) (acceptedOf x o) (stationMaximum o)
     own-offer o = record { offer = o; made = refl; answer = refl; most = refl }
 
     enters-held : (o : Offer) (g : Bool)
@@ -241,17 +234,6 @@ unfoldable HeldIn : LastOffer → Box → Type 0
 HeldIn l NoController = Unit {0}
 HeldIn l (Using c) = Held (c .settings) l (c .session .state)
 
--- a frame that leaves the session as it was is no CMP that was taken
-left-untaken : (a : Recognized) (n : ℕ) → (chargeIn a ≡ true → n ≡ 0 → ⊥) → (isOneOf isCmp a && eqb n 0) ≡ false
-unfolding isOneOf chargeIn
-left-untaken (recognized.As (message.Charge k)) n f = rw (ne-eqb n 0 (f refl)) (and-none (isCmp k))
-  where
-    and-none : (b : Bool) → (b && false) ≡ false
-    and-none true = refl
-    and-none false = refl
-left-untaken (recognized.As (message.Query q)) n f = refl
-left-untaken (recognized.Refused k) n f = refl
-
 module _ (l : LastOffer) where
   frame-held : (c : Controller) (id : ℕ) (s : List ℕ) (a : Answer) → Comes c id s a
       → Held (c .settings) l (c .session .state)
@@ -260,7 +242,7 @@ module _ (l : LastOffer) where
       (a .controller .session .state)
   unfolding sessionMoved messageOf appliedOf isCharge isOneOf
   frame-held c id s a (Left u e f) h =
-      rw (u, e, left-untaken (recognizedOf (partsOf id .pf)) (a .number) (λ i. f i .number)) h
+      rw (u, e, left-untaken isCmp (recognizedOf (partsOf id .pf)) (a .number) (λ i. f i .number)) h
   frame-held c id s a (Took m says may e) h =
       let o = outcomeOf (c .settings) (c .session .state) (c .session .count) m in
       rw (

@@ -8,7 +8,7 @@ use mathlib.Core.Bool.{Bool, true, false, cond}
 use mathlib.Core.List.{List, [], _∷_}
 use lib.Dec.{leb}
 use lib.IntN.{ℤ}
-use borrow.Author.Tests.{leb-false}
+use borrow.Author.Tests.{leb-true, leb-false}
 use Rattle.messages.specs.Identifier.{partsOf}
 use Rattle.units.specs.declared.TenthAmps.{TenthAmps}
 use Rattle.units.specs.Units.{lesserAmps, halvedAmps}
@@ -54,6 +54,10 @@ use Rattle.demands.proofs.Comes.{Comes, Left, Took, came}
 lesser-least : (a b : ℕ) (t : Bool) → leb a b ≡ t → cond t a b ≤ a
 lesser-least a b true h = omega arith
 lesser-least a b false h = omega (arith, leb-false a b h)
+
+pub lesser-second : (a b : ℕ) (t : Bool) → leb a b ≡ t → cond t a b ≤ b
+lesser-second a b true h = leb-true a b h
+lesser-second a b false h = omega arith
 
 hold-asks : (maximum : ℕ) → requestOf (Hold 0) ≤ maximum
 unfolding requestOf

@@ -4,10 +4,7 @@
 use Prim.Native.Nat.{ℕ, _+_, _-_, _≤_}
 use native.Mathlib.Omega.{arith}
 use mathlib.Core.Path.{_≡_, refl, sym, ap, subst, _∙_}
-use mathlib.Core.Bool.{Bool, true, false, cond}
 use mathlib.Core.List.{List}
-use borrow.Author.Tests.{leb-true}
-use lib.Dec.{leb}
 use lib.IntN.{ℤ}
 use Rattle.messages.specs.Table.{ECR}
 use Rattle.settings.specs.declared.Settings.{Settings}
@@ -26,13 +23,8 @@ use Rattle.demands.specs.Requests.{EachEcr, requestOf, requestIn, AsksWi
 use Rattle.demands.proofs.FrameKinds.{Bytes}
 use Rattle.demands.proofs.Addresses.{addresses}
 use Rattle.demands.proofs.Since.{since}
-use Rattle.demands.proofs.Requests.{turnAsks, turn-asks, turned-is, Within, never-above-the-maximum}
+use Rattle.demands.proofs.Requests.{lesser-second, turnAsks, turn-asks, turned-is, Within, never-above-the-maximum}
 use Rattle.demands.proofs.EcrSent.{word-back, ecrs-sent}
-
--- of two, the smaller is at most the second
-lesser-second : (a b : ℕ) (t : Bool) → leb a b ≡ t → cond t a b ≤ b
-lesser-second a b true h = leb-true a b h
-lesser-second a b false h = omega arith
 
 -- an ECR, by the words that it is made of
 module _ (x : Settings) (station : ℕ) where

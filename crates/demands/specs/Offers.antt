@@ -33,13 +33,13 @@ use Rattle.demands.specs.Requests.{EachEcr, currentWord}
 -- none was taken yet; or the last made this offer
 pub data LastOffer : Type 0 where
   NoOffer : LastOffer
-  Offered : Offer → LastOffer
+  LastWas : Offer → LastOffer
 
 -- the offer that a message makes: only a CMP makes one
 unfoldable pub offerIn : ChargeMessage → LastOffer
 offerIn Cim = NoOffer
 offerIn (Cvm b) = NoOffer
-offerIn (Cmp o) = Offered o
+offerIn (Cmp o) = LastWas o
 offerIn (Crm b) = NoOffer
 offerIn (Ccs b) = NoOffer
 offerIn (Cst b) = NoOffer
@@ -76,20 +76,20 @@ lastTaken ms = lastOffer (stepsMade NoController ms)
 -- Ready's yes or no, and the station's maximum, are those of this offer by the settings in use
 pub record OfOffer (x : Settings) (last : LastOffer) (accepted : Bool) (maximum : TenthAmps) : Type 0 where
   pub offer : Offer
-  pub made : last ≡ Offered offer
+  pub made : last ≡ LastWas offer
   pub answer : accepted ≡ acceptedOf x offer
   pub most : maximum ≡ stationMaximum offer
 
 -- a current, in tenths of an ampere, is not above the maximum that the station offered last
 pub record WithinOffer (last : LastOffer) (current : ℕ) : Type 0 where
   pub offer : Offer
-  pub made : last ≡ Offered offer
+  pub made : last ≡ LastWas offer
   pub within : current ≤ stationMaximum offer .0
 
 -- the same as sent: the current that an ECR asks, which is 4000 minus the word, is not above that maximum
 pub record AsksWithinOffer (last : LastOffer) (f : Frame) : Type 0 where
   pub offer : Offer
-  pub made : last ≡ Offered offer
+  pub made : last ≡ LastWas offer
   pub current : 4000 ≤ currentWord f + stationMaximum offer .0
 
 -- and so of each ECR among the frames
@@ -107,6 +107,6 @@ pub record BeginsCharge (gone : Bool) (last : LastOffer) (c : Controller) (k : C
   pub ready : isReady (c .session .state) ≡ true
   pub sent : gone ≡ true
   pub offer : Offer
-  pub made : last ≡ Offered offer
+  pub made : last ≡ LastWas offer
   pub answer : acceptedOf (c .settings) offer ≡ true
   pub phase : to ≡ Charging (startPhase (c .settings .limits .current) (stationMaximum offer))

@@ -23,7 +23,7 @@ use Rattle.charge_messages.specs.declared.ChargeMessage.{ChargeMessage}
 use Rattle.charge_messages.specs.declared.ChargeMessage.the-variants.{Cim, Cvm, Cmp, Crm, Cst}
 use Rattle.session_states.specs.declared.phases.Phase.{Phase}
 use Rattle.session_states.specs.declared.states.State.the-variants.{Parameters, Ready, Charging}
-use Rattle.session_states.specs.States.{isCharging, isStopping, isOffered, isParameters, isReady}
+use Rattle.session_states.specs.States.{isCharging, isStopping, isOffered, isParameters, isReady, isClosing}
 use Rattle.session_by_message.specs.Message.{outcomeNumber, outcomeOf}
 use Rattle.session.specs.Session.{opened}
 use Rattle.session.specs.Message.{sessionAfter}
@@ -56,7 +56,7 @@ use Rattle.demands.specs.SilentSlips.{isCim, isHandshake, SaysOnly}
 use Rattle.demands.specs.Reach.{UntilCvm, Follows, chargingWith}
 use Rattle.demands.specs.Requests.{requestIn, AllAskWithin}
 use Rattle.demands.specs.Offers.{lastTaken, OfOffer, WithinOffer, AllAskWithinOffer, BeginsCharge}
-use Rattle.demands.specs.Closing.{isClosing, longestClosing}
+use Rattle.demands.specs.Closing.{longestClosing}
 use Rattle.demands.specs.Sent.{framesWritten}
 use Rattle.demands.specs.WorkedRows.{WorkedRows}
 use Rattle.demands.specs.PaperNumbers.{PaperNumbers}

@@ -74,3 +74,14 @@ isStopping (Ready accepted maximum) = false
 isStopping (Charging p) = false
 isStopping (Stopping acknowledged est) = true
 isStopping Error = false
+
+-- Stopping or Error
+unfoldable pub isClosing : State → Bool
+isClosing Idle = false
+isClosing Offered = false
+isClosing Unverified = false
+isClosing Parameters = false
+isClosing (Ready accepted maximum) = false
+isClosing (Charging p) = false
+isClosing (Stopping acknowledged est) = true
+isClosing Error = true
