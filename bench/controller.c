@@ -40,7 +40,7 @@ static const uint8_t least_length[CIM + 1] = {
 #define EC BROADCAST(0x27)
 
 enum {
-    ZERO_CURRENT = 4000,            /* raw current is this less the tenths */
+    ZERO_CURRENT = 4000,            /* the raw current of 0 A */
     SILENCE_LIMIT = 200, END_COUNT = 600,
     DRIVE_TICKS = 18000, REST_TICKS = 6000, HOLD_TICKS = 18000,
     LEAST_REQUEST = 60, MOST_DRIVES = 6,
@@ -195,14 +195,20 @@ static void enter_charging(struct session *s, const struct settings *set)
     start_phase(s);
 }
 
+/* A current word of a CMP, in tenths: its distance from 4000, either side. */
+static unsigned offered(unsigned raw)
+{
+    return raw < ZERO_CURRENT ? ZERO_CURRENT - raw : raw - ZERO_CURRENT;
+}
+
 /* A taken CMP: Ready with count 0, and a new yes or no. */
 static void enter_ready(struct session *s, const struct settings *set, const uint8_t *d)
 {
-    int max_current = ZERO_CURRENT - word(d + 4), min_current = ZERO_CURRENT - word(d + 6);
+    unsigned max_current = offered(word(d + 4)), min_current = offered(word(d + 6));
 
     enter(s, READY);
     s->yes = word(d + 2) <= set->max_pack && set->max_pack <= word(d)
-          && 0 <= min_current && min_current <= max_current && min_current <= set->max_current;
+          && min_current <= max_current && min_current <= set->max_current;
     s->station_max = s->yes ? (uint16_t)max_current : 0;
 }
 

@@ -13,7 +13,7 @@ use Rattle.settings.specs.Range.{within, goodStations, inRange, limitsInRange}
 use Rattle.charge_messages.specs.declared.Offer.{Offer}
 use Rattle.charge_messages.specs.declared.ChargeMessage.the-variants.{Cim, Cvm, Cmp, Crm, Cst}
 use Rattle.charge_messages.specs.Content.{contentOf}
-use Rattle.session_by_message.specs.Offer.{acceptedOf}
+use Rattle.session_by_message.specs.Offer.{offeredTenths, acceptedOf}
 use Rattle.controller.specs.Start.{freshOf}
 use Rattle.refusals.specs.Frame.{notCan, flagsSet, notForUs, badSource, listed}
 use Rattle.session_states.specs.Limits.{silenceLimit}
@@ -69,11 +69,11 @@ abbrev lowData : List ℕ
 lowData = 0xf4 ∷ 0x01 ∷ 0x00 ∷ 0x00 ∷ 0xd0 ∷ 0x07 ∷ 0xa0 ∷ 0x0f ∷ []
 
 yes-rule : acceptedOf ours offer ≡ true
-unfolding acceptedOf
+unfolding acceptedOf offeredTenths
 yes-rule = refl
 
 low-refused : acceptedOf ours lowOffer ≡ false
-unfolding acceptedOf
+unfolding acceptedOf offeredTenths
 low-refused = refl
 
 pub is-listed : listed 0x56 (ours .stations) ≡ true

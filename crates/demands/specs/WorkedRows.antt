@@ -1,6 +1,6 @@
 -- "Rows marked P below are shown of the definitions, as one table under a single statement" (01, "What a reader can
 -- rely on"; "Worked rows"). In the paper's order. For `worked-rows`.
-use Prim.Native.Nat.{ℕ, suc, _<_}
+use Prim.Native.Nat.{ℕ, suc, _<_, _≤_}
 use mathlib.Core.Path.{_≡_}
 use mathlib.Core.Bool.{Bool, true, false}
 use mathlib.Core.List.{List, [], _∷_, _++_}
@@ -23,7 +23,8 @@ use Rattle.session_states.specs.declared.phases.Phase.the-variants.{Drive, Rest
 use Rattle.session_states.specs.declared.phases.PhaseAfter.{PhaseAfter}
 use Rattle.session_states.specs.declared.phases.PhaseAfter.the-variants.{On, Stop}
 use Rattle.session_states.specs.Phases.{startPhase, phaseAfter}
-use Rattle.session_by_message.specs.Offer.{offeredTenths}
+use Rattle.charge_messages.specs.declared.Offer.{Offer}
+use Rattle.session_by_message.specs.Offer.{offeredTenths, acceptedOf}
 use Rattle.session_frames.specs.Layouts.{holdVoltage, ecrFrame, ecrOf, eimOf, eemOf}
 use Rattle.broadcasts.specs.Layouts.{psOf}
 use Rattle.queries.specs.declared.Kind.the-variants.{Voltages, Temperatures}
@@ -83,16 +84,28 @@ pub record WorkedRows : Type 0 where
   pub ps : (heartbeat : Bool) (r : Readings) (c : Cells) → psOf 0xf4 heartbeat r c .id ≡ 0x1cfa_20f4
   -- EEM is 081E56F4
   pub eem : (x : Settings) → x .own ≡ 0xf4 → eemOf x 0x56 .id ≡ 0x081e_56f4
-  -- 200.0 A is raw 2000; 1.2 A is 3988; -50.0 A is 4500 (`negsuc 499` is minus 500): measured, requested, and read in a
-  -- CMP
-  pub raw-200 : rawOf (pos 2000) ≡ 2000
-  pub raw-1-2 : rawOf (pos 12) ≡ 3988
-  pub raw-minus-50 : rawOf (negsuc 499) ≡ 4500
+  -- 200.0 A is raw 2000; 1.2 A is 3988; -50.0 A is 4500 (`negsuc 499` is minus 500): as ECS sends what is measured,
+  -- 4000 minus the current with its sign
+  pub measured-200 : rawOf (pos 2000) ≡ 2000
+  pub measured-1-2 : rawOf (pos 12) ≡ 3988
+  pub measured-minus-50 : rawOf (negsuc 499) ≡ 4500
+  -- as ECR sends what is requested, by the same rule; a request is not below 0
   pub requested-200 : rawAmps (tenths 2000) .0 ≡ 2000
   pub requested-1-2 : rawAmps (tenths 12) .0 ≡ 3988
-  pub offered-200 : offeredTenths (word 2000) ≡ pos 2000
-  pub offered-1-2 : offeredTenths (word 3988) ≡ pos 12
-  pub offered-minus-50 : offeredTenths (word 4500) ≡ negsuc 499
+  -- as CMP is read, what is offered, by a rule of its own (02, request 1): the distance of the word from 4000, either
+  -- side. The word that ECS sends for -50.0 A is 50.0 A here
+  pub offered-200 : offeredTenths (word 2000) ≡ 2000
+  pub offered-1-2 : offeredTenths (word 3988) ≡ 12
+  pub offered-minus-50 : offeredTenths (word 4500) ≡ 500
+  -- and the row that request 1 adds: 8500 is 450.0 A, 4100 is 10.0 A, 8100 is 410.0 A
+  pub offered-450 : offeredTenths (word 8500) ≡ 4500
+  pub offered-10 : offeredTenths (word 4100) ≡ 100
+  pub offered-410 : offeredTenths (word 8100) ≡ 4100
+  -- so the yes rule accepts the CMP of 000's trace, 10.0 V to 400.0 V and 10.0 A to 450.0 A, wherever maximum pack
+  -- voltage lies between and maximum current is 10.0 A or more
+  pub trace-accepted : (x : Settings) (o : Offer)
+      → o .highest .0 ≡ 4000 → o .lowest .0 ≡ 100 → o .most .0 ≡ 8500 → o .least .0 ≡ 4100
+      → 100 ≤ x .limits .pack .0 → x .limits .pack .0 ≤ 4000 → 100 ≤ x .limits .current .0 → acceptedOf x o ≡ true
   -- maximum pack voltage 65535: 48 cells hold at 1704; 3 at 106
   pub hold-48 : (x : Settings) (c : Cells) → x .limits .pack .0 ≡ 65535
       → cellCount (c .volts) ≡ 48 → holdVoltage x c .0 ≡ 1704

@@ -1,22 +1,49 @@
--- Rows of 01, "Worked rows", marked P, that are about currents in a CMP. Assumes nothing.
-use Prim.Native.Nat.{ℕ}
+-- Worked rows, marked P, that are about currents in a CMP (01, "Worked rows"; 02, request 1): a word means its distance
+-- from 4000. Assumes nothing.
+use Prim.Native.Nat.{_≤_}
 use mathlib.Core.Path.{_≡_, refl}
-use lib.IntN.{pos, negsuc}
-use Rattle.units.specs.declared.RawAmps.{RawAmps}
-use Rattle.session_by_message.specs.Offer.{offeredTenths}
+use mathlib.Core.Bool.{true}
+use borrow.Author.Tests.{le-leb}
+use Rattle.settings.specs.declared.Settings.{Settings}
+use Rattle.charge_messages.specs.declared.Offer.{Offer}
+use Rattle.session_by_message.specs.Offer.{offeredTenths, acceptedOf}
+use Rattle.session_by_message.proofs.Currents.{word}
 
--- a current word
-abbrev pub word : ℕ → RawAmps
-word n = record { 0 = n }
-
--- raw 2000 is 200.0 A
-pub raw-2000 : offeredTenths (word 2000) ≡ pos 2000
+-- below 4000: raw 2000 is 200.0 A
+pub raw-2000 : offeredTenths (word 2000) ≡ 2000
+unfolding offeredTenths
 raw-2000 = refl
 
 -- raw 3988 is 1.2 A
-pub raw-3988 : offeredTenths (word 3988) ≡ pos 12
+pub raw-3988 : offeredTenths (word 3988) ≡ 12
+unfolding offeredTenths
 raw-3988 = refl
 
--- raw 4500 is -50.0 A
-pub raw-4500 : offeredTenths (word 4500) ≡ negsuc 499
+-- above 4000: raw 4500 is 50.0 A
+pub raw-4500 : offeredTenths (word 4500) ≡ 500
+unfolding offeredTenths
 raw-4500 = refl
+
+-- raw 8500 is 450.0 A
+pub raw-8500 : offeredTenths (word 8500) ≡ 4500
+unfolding offeredTenths
+raw-8500 = refl
+
+-- raw 4100 is 10.0 A
+pub raw-4100 : offeredTenths (word 4100) ≡ 100
+unfolding offeredTenths
+raw-4100 = refl
+
+-- raw 8100 is 410.0 A
+pub raw-8100 : offeredTenths (word 8100) ≡ 4100
+unfolding offeredTenths
+raw-8100 = refl
+
+-- the CMP of 000's trace is answered yes
+pub trace-accepted :
+    (x : Settings) (o : Offer)
+    → o .highest .0 ≡ 4000 → o .lowest .0 ≡ 100 → o .most .0 ≡ 8500 → o .least .0 ≡ 4100
+    → 100 ≤ x .limits .pack .0 → x .limits .pack .0 ≤ 4000 → 100 ≤ x .limits .current .0 → acceptedOf x o ≡ true
+unfolding acceptedOf offeredTenths
+trace-accepted x o h l m n above below within =
+    rw (h, l, m, n, le-leb 100 (x .limits .pack .0) above, le-leb (x .limits .pack .0) 4000 below, le-leb 100 (x .limits .current .0) within)

@@ -1,3 +1,2 @@
 pub mod Offer
-pub mod InnerSigned
 pub mod Message

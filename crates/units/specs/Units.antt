@@ -28,6 +28,7 @@ lesserAmps a b = record { 0 = lesserOf (a .0) (b .0) }
 abbrev pub halvedAmps : TenthAmps → TenthAmps
 halvedAmps a = record { 0 = a .0 / 2 }
 
--- a current of 0 or more as the word of a frame: 4000 minus it (and 0 above 4000, where no limit and no request stands)
+-- a current of 0 or more as the word of a frame that we send: 4000 minus it (and 0 above 4000, where no limit and no
+-- request stands)
 abbrev pub rawAmps : TenthAmps → RawAmps
 rawAmps a = record { 0 = 4000 - a .0 }

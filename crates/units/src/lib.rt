@@ -13,10 +13,10 @@ pub struct TenthVolts(pub u16);
 // A cell voltage: 0.01 V.
 pub struct HundredthVolts(pub u16);
 
-// A current of 0 or more, a limit or a request: 0.1 A.
+// A current of 0 or more, a limit, a request or an offer: 0.1 A.
 pub struct TenthAmps(pub u16);
 
-// A current as the 16-bit word of a frame: 4000 minus the tenths.
+// A current as the 16-bit word of a frame, where 4000 is 0 A. What another word means is told by its message's rule.
 pub struct RawAmps(pub u16);
 
 // A cell temperature as it is sent: degrees F + 50.
@@ -89,7 +89,7 @@ impl TenthAmps {
         TenthAmps(self.0 / 2)
     }
 
-    // As the word of a frame.
+    // As the word of a frame that we send: 4000 minus it.
     pub fn raw(self) -> RawAmps
         ensures { λ r. ⌜ r ≡ rawAmps self ⌝ }
     {

@@ -1,7 +1,5 @@
 -- `offer::offered` meets its contract. Assumes nothing.
-use mathlib.Core.Path.{sym, ap}
-use Rattle.units.specs.InnerSigned.{signedOf}
-use Rattle.session_by_message.proofs.Currents.{not-below, below}
+use Rattle.session_by_message.proofs.Currents.{up-to-4000, above-4000}
 use borrow.Author.Needs.{needs}
 use Rattle.session_by_message.proofs.offer.offered.Statement.{statement}
 use Rattle.session_by_message.proofs.offer.offered.Tie as tie
@@ -10,10 +8,10 @@ sub-t5 : tie.Need-sub-t5
 sub-t5 c = search needs
 
 returns : tie.Need-returns
-returns c = sym (ap signedOf (not-below 4000 _ (c .before .if1 .taken)))
+returns c = up-to-4000 _ (c .before .if1 .taken)
 
 returns-2 : tie.Need-returns-2
-returns-2 c = sym (ap signedOf (below 4000 _ (c .before .if1 .left)))
+returns-2 c = above-4000 _ (c .before .if1 .left)
 
 pub offered-spec : {M : Type 1} → statement M
 offered-spec = tie.close (tie.spec sub-t5 returns returns-2)
