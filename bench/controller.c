@@ -196,7 +196,7 @@ static void enter_charging(struct session *s, const struct settings *set)
 }
 
 /* A current word of a CMP, in tenths: its distance from 4000, either side. */
-static unsigned offered(unsigned raw)
+static unsigned cmp_current(unsigned raw)
 {
     return raw < ZERO_CURRENT ? ZERO_CURRENT - raw : raw - ZERO_CURRENT;
 }
@@ -204,7 +204,7 @@ static unsigned offered(unsigned raw)
 /* A taken CMP: Ready with count 0, and a new yes or no. */
 static void enter_ready(struct session *s, const struct settings *set, const uint8_t *d)
 {
-    unsigned max_current = offered(word(d + 4)), min_current = offered(word(d + 6));
+    unsigned max_current = cmp_current(word(d + 4)), min_current = cmp_current(word(d + 6));
 
     enter(s, READY);
     s->yes = word(d + 2) <= set->max_pack && set->max_pack <= word(d)

@@ -28,16 +28,17 @@ use Rattle.demands.proofs.EcrSent.{word-back, ecrs-sent}
 
 -- an ECR, by the words that it is made of
 module _ (x : Settings) (station : ℕ) where
-  made-within : (v i mode : ℕ) → v ≤ x .limits .pack .0 → 4000 ≤ i + x .limits .current .0
+  made-within : (v i mode : ℕ) → v ≤ x .limits .pack .0 → i ≤ 4000 → 4000 ≤ i + x .limits .current .0
       → AsksWithin x (ecrFrame x station v i mode)
   unfolding ecrFrame
-  made-within v i mode h j = record { current = rw (word-back i) j; voltage = rw (word-back v) h }
+  made-within v i mode h j k =
+      record { not-below = rw (word-back i) j; current = rw (word-back i) k; voltage = rw (word-back v) h }
 
   ecr-within : (c : Cells) (p : Phase) → requestOf p ≤ x .limits .current .0 → AsksWithin x (ecrOf x station c p)
   unfolding ecrOf requestOf holdVoltage
-  ecr-within c (Drive request cycle time) h = made-within 0 (4000 - request .0) 0x02 (omega arith) (omega arith)
-  ecr-within c (Rest request cycle time) h = made-within 0 4000 0x02 (omega arith) (omega arith)
-  ecr-within c (Hold time) h = made-within _ 4000 0x01 (lesser-second _ _ _ refl) (omega arith)
+  ecr-within c (Drive request cycle time) h = made-within 0 (4000 - request .0) 0x02 (omega arith) (omega arith) (omega arith)
+  ecr-within c (Rest request cycle time) h = made-within 0 4000 0x02 (omega arith) (omega arith) (omega arith)
+  ecr-within c (Hold time) h = made-within _ 4000 0x01 (lesser-second _ _ _ refl) (omega arith) (omega arith)
 
 -- the phase that a tick leads to asks no more than the state before it
 module _ (c : Controller) (b : Bytes c) (h : Within c) (r : Readings) (v : List ℕ) (t : List ℤ) where

@@ -14,6 +14,8 @@ use Rattle.messages.specs.Identifier.{partsOf}
 use Rattle.frames.specs.Frame.{frameOf}
 use Rattle.settings.specs.declared.Settings.{Settings}
 use Rattle.cells.specs.declared.Cells.{Cells}
+use Rattle.charge_messages.specs.declared.Offer.{Offer}
+use Rattle.session_by_message.specs.Offer.{offeredTenths, stationMaximum}
 use Rattle.session_states.specs.declared.phases.Phase.{Phase}
 use Rattle.session_states.specs.declared.phases.Phase.the-variants.{Drive, Rest, Hold}
 use Rattle.session_states.specs.Limits.{driveLimit, restLimit}
@@ -43,6 +45,16 @@ module _ (x : Settings) (station cycle time : ℕ) (c : Cells) where
   asks-100 : ecrOf x station c (Drive (tenths 100) cycle time) ≡ ecrFrame x station 0 3900 0x02
   unfolding ecrOf
   asks-100 = refl
+
+-- the first request of a station whose maximum is raw 8500, and of one with 4100
+module _ (o : Offer) where
+  asked-of-8500 : o .most .0 ≡ 8500 → startPhase (tenths 4000) (stationMaximum o) ≡ Drive (tenths 4000) 1 0
+  unfolding startPhase stationMaximum offeredTenths
+  asked-of-8500 h = rw h
+
+  asked-of-4100 : o .most .0 ≡ 4100 → startPhase (tenths 4000) (stationMaximum o) ≡ Drive (tenths 100) 1 0
+  unfolding startPhase stationMaximum offeredTenths
+  asked-of-4100 h = rw h
 
 -- ---- 400 is asked 400, 200, 100, then Hold
 -- the law over the ticks: a phase that at each tick below its limit asks the same and goes on, goes on for as many
@@ -185,6 +197,7 @@ worked-rows =
       measured-200 = readings.two-hundred;
       measured-1-2 = readings.one-point-two;
       measured-minus-50 = readings.minus-fifty;
+      ecs-minus-50 = layouts.ecs-minus-50;
       requested-200 = layouts.raw-of-2000;
       requested-1-2 = layouts.raw-of-12;
       offered-200 = outcomes.raw-2000;
@@ -194,6 +207,10 @@ worked-rows =
       offered-10 = outcomes.raw-4100;
       offered-410 = outcomes.raw-8100;
       trace-accepted = outcomes.trace-accepted;
+      minimum-refused = outcomes.minimum-refused;
+      exchanged-refused = outcomes.exchanged-refused;
+      asked-of-8500 = asked-of-8500;
+      asked-of-4100 = asked-of-4100;
       hold-48 = layouts.forty-eight-hold;
       hold-3 = layouts.three-hold;
       asked-400 = asks-in-turn;

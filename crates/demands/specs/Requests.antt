@@ -44,9 +44,10 @@ voltageWord f = wordAt (f .bytes) 0
 abbrev pub currentWord : Frame → ℕ
 currentWord f = wordAt (f .bytes) 2
 
--- what it asks is within the settings: the current, which is 4000 minus the word, is at most the maximum current, and
--- the voltage at most the maximum pack voltage
+-- what it asks is within the settings: the current, which is 4000 minus the word, is 0 or more and at most the maximum
+-- current, and the voltage at most the maximum pack voltage
 pub record AsksWithin (x : Settings) (f : Frame) : Type 0 where
+  pub not-below : currentWord f ≤ 4000
   pub current : 4000 ≤ currentWord f + x .limits .current .0
   pub voltage : voltageWord f ≤ x .limits .pack .0
 

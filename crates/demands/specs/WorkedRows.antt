@@ -1,5 +1,6 @@
 -- "Rows marked P below are shown of the definitions, as one table under a single statement" (01, "What a reader can
--- rely on"; "Worked rows"). In the paper's order. For `worked-rows`.
+-- rely on"; "Worked rows"). In the paper's order, with the row of 02, request 1, beside the one that it changes. For
+-- `worked-rows`.
 use Prim.Native.Nat.{ℕ, suc, _<_, _≤_}
 use mathlib.Core.Path.{_≡_}
 use mathlib.Core.Bool.{Bool, true, false}
@@ -9,6 +10,7 @@ use lib.ListN.{length, replicate}
 use Rattle.units.specs.declared.TenthAmps.{TenthAmps}
 use Rattle.units.specs.declared.RawAmps.{RawAmps}
 use Rattle.units.specs.Units.{rawAmps}
+use Rattle.buffers.specs.Words.{wordAt}
 use Rattle.messages.specs.Table.{toTarget}
 use Rattle.messages.specs.Identifier.{partsOf}
 use Rattle.frames.specs.Frame.{frameOf}
@@ -24,8 +26,8 @@ use Rattle.session_states.specs.declared.phases.PhaseAfter.{PhaseAfter}
 use Rattle.session_states.specs.declared.phases.PhaseAfter.the-variants.{On, Stop}
 use Rattle.session_states.specs.Phases.{startPhase, phaseAfter}
 use Rattle.charge_messages.specs.declared.Offer.{Offer}
-use Rattle.session_by_message.specs.Offer.{offeredTenths, acceptedOf}
-use Rattle.session_frames.specs.Layouts.{holdVoltage, ecrFrame, ecrOf, eimOf, eemOf}
+use Rattle.session_by_message.specs.Offer.{offeredTenths, acceptedOf, stationMaximum}
+use Rattle.session_frames.specs.Layouts.{holdVoltage, ecrFrame, ecrOf, ecsOf, eimOf, eemOf}
 use Rattle.broadcasts.specs.Layouts.{psOf}
 use Rattle.queries.specs.declared.Kind.the-variants.{Voltages, Temperatures}
 use Rattle.queries.specs.declared.Query.{Query}
@@ -89,11 +91,13 @@ pub record WorkedRows : Type 0 where
   pub measured-200 : rawOf (pos 2000) ≡ 2000
   pub measured-1-2 : rawOf (pos 12) ≡ 3988
   pub measured-minus-50 : rawOf (negsuc 499) ≡ 4500
+  pub ecs-minus-50 : (x : Settings) (station : ℕ) (r : Readings) (c : Cells) → r .current ≡ negsuc 499
+      → wordAt (ecsOf x station r c .bytes) 2 ≡ 4500
   -- as ECR sends what is requested, by the same rule; a request is not below 0
   pub requested-200 : rawAmps (tenths 2000) .0 ≡ 2000
   pub requested-1-2 : rawAmps (tenths 12) .0 ≡ 3988
   -- as CMP is read, what is offered, by a rule of its own (02, request 1): the distance of the word from 4000, either
-  -- side. The word that ECS sends for -50.0 A is 50.0 A here
+  -- side. The word that ECS sends for -50.0 A is 50.0 A here, in the row that keeps its name
   pub offered-200 : offeredTenths (word 2000) ≡ 2000
   pub offered-1-2 : offeredTenths (word 3988) ≡ 12
   pub offered-minus-50 : offeredTenths (word 4500) ≡ 500
@@ -106,6 +110,17 @@ pub record WorkedRows : Type 0 where
   pub trace-accepted : (x : Settings) (o : Offer)
       → o .highest .0 ≡ 4000 → o .lowest .0 ≡ 100 → o .most .0 ≡ 8500 → o .least .0 ≡ 4100
       → 100 ≤ x .limits .pack .0 → x .limits .pack .0 ≤ 4000 → 100 ≤ x .limits .current .0 → acceptedOf x o ≡ true
+  -- and refuses its minimum where maximum current is below it, and where its two words change places
+  pub minimum-refused : (x : Settings) (o : Offer)
+      → o .least .0 ≡ 4100 → x .limits .current .0 < 100 → acceptedOf x o ≡ false
+  pub exchanged-refused : (x : Settings) (o : Offer)
+      → o .most .0 ≡ 4100 → o .least .0 ≡ 8500 → acceptedOf x o ≡ false
+  -- the first request, where maximum current is 400.0 A: that of a station whose maximum is raw 8500, and 10.0 A of one
+  -- with 4100
+  pub asked-of-8500 : (o : Offer) → o .most .0 ≡ 8500
+      → startPhase (tenths 4000) (stationMaximum o) ≡ Drive (tenths 4000) 1 0
+  pub asked-of-4100 : (o : Offer) → o .most .0 ≡ 4100
+      → startPhase (tenths 4000) (stationMaximum o) ≡ Drive (tenths 100) 1 0
   -- maximum pack voltage 65535: 48 cells hold at 1704; 3 at 106
   pub hold-48 : (x : Settings) (c : Cells) → x .limits .pack .0 ≡ 65535
       → cellCount (c .volts) ≡ 48 → holdVoltage x c .0 ≡ 1704

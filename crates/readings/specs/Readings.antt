@@ -26,7 +26,8 @@ wantedOf r =
 unfoldable pub aboveOf : ℤ → TenthAmps → Bool
 aboveOf c maximum = ltZ (pos (maximum .0)) c
 
--- a current in tenths is sent as 4000 minus it: see the law `raw-is`, since a current in range is at most 4000
+-- a current in tenths as a raw word: 4000 minus it, with its sign. In range it is at most 4000, so that the number is
+-- not below 0 and its absolute value is the number: the law `raw-is` (proofs/Current.antt)
 unfoldable pub rawOf : ℤ → ℕ
 rawOf c = natAbs (pos 4000 -ℤ c)
 

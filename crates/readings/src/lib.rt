@@ -35,7 +35,8 @@ fn current_ok(c: i16) -> bool
     }
 }
 
-// A current as it is sent: 4000 minus it. (One above 4000 is outside its range, and then this is how far above.)
+// A current as a raw word: 4000 minus it, with its sign. (One above 4000 is outside its range, and then this is how far
+// above.)
 fn raw(c: i16) -> u16
     ensures { λ r. ⌜ r ≡ rawOf c ⌝ }
 {

@@ -13,7 +13,7 @@ abbrev pub distance : ℕ → ℕ → ℕ
 distance a b = cond (leb a b) (b - a) (a - b)
 
 -- what a current word of a CMP means, in tenths of an ampere: "the distance of the raw word from 4000, either side"
--- (02, request 1). Of CMP alone: ECR and ECS keep their signed rule (`rawAmps`, `rawOf`)
+-- (02, request 1). Of CMP alone: ECR and ECS keep their signed rule, 4000 minus the current (`rawAmps`, `rawOf`)
 unfoldable pub offeredTenths : RawAmps → ℕ
 offeredTenths raw = distance (raw .0) 4000
 

@@ -1,12 +1,17 @@
--- Rows of 01, "Worked rows", marked P, that are about what ECR asks. Assumes nothing.
+-- Rows of 01, "Worked rows", marked P, that are about frames to the station. Assumes nothing.
+use Prim.Native.Nat.{ℕ}
 use mathlib.Core.Path.{_≡_, refl}
 use mathlib.Core.Bool.{Bool}
+use lib.IntN.{negsuc}
 use Rattle.units.specs.Units.{rawAmps}
+use Rattle.buffers.specs.Words.{wordAt}
 use Rattle.messages.specs.Identifier.{numberOf}
 use Rattle.settings.specs.declared.Settings.{Settings}
+use Rattle.readings.specs.declared.Readings.{Readings}
+use Rattle.readings.specs.Readings.{rawOf}
 use Rattle.cells.specs.declared.Cells.{Cells}
 use Rattle.cells.specs.Figures.{cellCount}
-use Rattle.session_frames.specs.Layouts.{holdVoltage, eimOf, eemOf}
+use Rattle.session_frames.specs.Layouts.{holdVoltage, ecsOf, eimOf, eemOf}
 
 -- maximum pack voltage 65535: 48 cells hold at 1704; 3 at 106
 module _ (x : Settings) (c : Cells) (pack : x .limits .pack .0 ≡ 65535) where
@@ -24,6 +29,13 @@ raw-of-2000 = refl
 
 pub raw-of-12 : rawAmps (record { 0 = 12 }) .0 ≡ 3988
 raw-of-12 = refl
+
+-- -50.0 A is 4500, as ECS sends it (`negsuc 499` is minus 500)
+pub ecs-minus-50 :
+    (x : Settings) (station : ℕ) (r : Readings) (c : Cells) → r .current ≡ negsuc 499
+    → wordAt (ecsOf x station r c .bytes) 2 ≡ 4500
+unfolding ecsOf rawOf
+ecs-minus-50 x station r c h = rw h
 
 -- EIM from F4 to 56 is 182756F4, and EEM is 081E56F4
 module _ (x : Settings) (own : x .own ≡ 0xf4) where
