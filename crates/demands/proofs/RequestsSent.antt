@@ -1,6 +1,6 @@
 -- "Request R is the smaller of maximum current and the station's maximum", "Hold voltage is the smaller of .. and maximum
 -- pack voltage", as sent: after any calls from the start, no ECR that a call sends asks more than the maxima of the
--- settings in use, told by the bytes of the frame. Assumes nothing.
+-- settings in use, nor less than 0 A, told by the bytes of the frame. Assumes nothing.
 use Prim.Native.Nat.{ℕ, _+_, _-_, _≤_}
 use native.Mathlib.Omega.{arith}
 use mathlib.Core.Path.{_≡_, refl, sym, ap, subst, _∙_}

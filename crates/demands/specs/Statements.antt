@@ -240,7 +240,7 @@ TheLastCmpCounts =
     → c .session .state ≡ Ready accepted maximum → OfOffer (c .settings) (lastTaken ms) accepted maximum
 
 -- "no ECR frame of any run asks more than the settings' maximum current, nor in Hold more than the maximum pack
--- voltage, told by the bytes sent"
+-- voltage, told by the bytes sent"; and none asks less than 0 A
 abbrev pub NoRequestAbove : Type 0
 NoRequestAbove =
     (ms : List CallMade) (c : Controller) (r : Readings) (v : List ℕ) (t : List ℤ) (old new : List ℕ) (k : Ticked)

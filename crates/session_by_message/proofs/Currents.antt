@@ -12,6 +12,7 @@ use Rattle.units.specs.declared.RawAmps.{RawAmps}
 use Rattle.units.specs.declared.TenthAmps.{TenthAmps}
 use Rattle.session_by_message.specs.Offer.{offeredTenths, acceptedOf, stationMaximum}
 
+-- a current word
 abbrev pub word : ℕ → RawAmps
 word n = record { 0 = n }
 
