@@ -15,7 +15,7 @@ use Rattle.frames.specs.Frame.{frameOf}
 use Rattle.settings.specs.declared.Settings.{Settings}
 use Rattle.cells.specs.declared.Cells.{Cells}
 use Rattle.charge_messages.specs.declared.Offer.{Offer}
-use Rattle.session_by_message.specs.Offer.{offeredTenths, stationMaximum}
+use Rattle.session_by_message.specs.Offer.{stationMaximum}
 use Rattle.session_states.specs.declared.phases.Phase.{Phase}
 use Rattle.session_states.specs.declared.phases.Phase.the-variants.{Drive, Rest, Hold}
 use Rattle.session_states.specs.Limits.{driveLimit, restLimit}
@@ -26,7 +26,8 @@ use Rattle.session_frames.specs.Layouts.{holdVoltage, ecrFrame, ecrOf}
 use Rattle.session_frames.proofs.WorkedRows as layouts
 use Rattle.broadcasts.proofs.WorkedRows as broadcasts
 use Rattle.readings.proofs.WorkedRows as readings
-use Rattle.session_by_message.proofs.WorkedRows as outcomes
+use Rattle.session_by_message.proofs.Currents as currents
+use Rattle.session_by_message.proofs.WorkedRows as offers
 use Rattle.session_states.proofs.WorkedRows as phases
 use Rattle.cells.proofs.WorkedRows as cells
 use Rattle.queries.proofs.WorkedRows as queries
@@ -49,12 +50,12 @@ module _ (x : Settings) (station cycle time : ℕ) (c : Cells) where
 -- the first request of a station whose maximum is raw 8500, and of one with 4100
 module _ (o : Offer) where
   asked-of-8500 : o .most .0 ≡ 8500 → startPhase (tenths 4000) (stationMaximum o) ≡ Drive (tenths 4000) 1 0
-  unfolding startPhase stationMaximum offeredTenths
-  asked-of-8500 h = rw h
+  unfolding startPhase
+  asked-of-8500 h = rw (← currents.maximum-above o 4500 h)
 
   asked-of-4100 : o .most .0 ≡ 4100 → startPhase (tenths 4000) (stationMaximum o) ≡ Drive (tenths 100) 1 0
-  unfolding startPhase stationMaximum offeredTenths
-  asked-of-4100 h = rw h
+  unfolding startPhase
+  asked-of-4100 h = rw (← currents.maximum-above o 100 h)
 
 -- ---- 400 is asked 400, 200, 100, then Hold
 -- the law over the ticks: a phase that at each tick below its limit asks the same and goes on, goes on for as many
@@ -200,15 +201,15 @@ worked-rows =
       ecs-minus-50 = layouts.ecs-minus-50;
       requested-200 = layouts.raw-of-2000;
       requested-1-2 = layouts.raw-of-12;
-      offered-200 = outcomes.raw-2000;
-      offered-1-2 = outcomes.raw-3988;
-      offered-minus-50 = outcomes.raw-4500;
-      offered-450 = outcomes.raw-8500;
-      offered-10 = outcomes.raw-4100;
-      offered-410 = outcomes.raw-8100;
-      trace-accepted = outcomes.trace-accepted;
-      minimum-refused = outcomes.minimum-refused;
-      exchanged-refused = outcomes.exchanged-refused;
+      offered-200 = currents.so-far-below 2000 (omega arith);
+      offered-1-2 = currents.so-far-below 12 (omega arith);
+      offered-minus-50 = currents.so-far-above 500;
+      offered-450 = currents.so-far-above 4500;
+      offered-10 = currents.so-far-above 100;
+      offered-410 = currents.so-far-above 4100;
+      trace-accepted = offers.trace-accepted;
+      minimum-refused = offers.minimum-refused;
+      exchanged-refused = offers.exchanged-refused;
       asked-of-8500 = asked-of-8500;
       asked-of-4100 = asked-of-4100;
       hold-48 = layouts.forty-eight-hold;

@@ -58,3 +58,7 @@ accepted-told x o = rw (leb·zero (offeredTenths (o .least)))
 pub maximum-told : (o : Offer) (a : TenthAmps) → a .0 ≡ offeredTenths (o .most) → a ≡ stationMaximum o
 unfolding stationMaximum
 maximum-told o a h = ap (λ (n : ℕ). record { 0 = n }) h
+
+pub maximum-above : (o : Offer) (n : ℕ) → o .most .0 ≡ 4000 + n → record { 0 = n } ≡ stationMaximum o
+maximum-above o n h =
+    maximum-told o (record { 0 = n }) (sym (ap (λ (raw : ℕ). offeredTenths (word raw)) h ∙ so-far-above n))

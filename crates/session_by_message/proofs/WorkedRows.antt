@@ -1,44 +1,13 @@
--- Worked rows, marked P, that are about currents in a CMP (01, "Worked rows"; 02, request 1): a word means its distance
--- from 4000. Assumes nothing.
+-- Worked rows that are about the yes rule (02, request 1). What a single word means is shown by the two laws of either
+-- side (Currents.antt). Assumes nothing.
 use Prim.Native.Nat.{_<_, _≤_}
-use mathlib.Core.Path.{_≡_, refl, ap, _∙_}
+use mathlib.Core.Path.{_≡_, ap, _∙_}
 use mathlib.Core.Bool.{Bool, true, false, _&&_, and-false}
 use borrow.Author.Tests.{le-leb, lt-leb}
 use lib.Dec.{leb}
 use Rattle.settings.specs.declared.Settings.{Settings}
 use Rattle.charge_messages.specs.declared.Offer.{Offer}
 use Rattle.session_by_message.specs.Offer.{distance, offeredTenths, acceptedOf}
-use Rattle.session_by_message.proofs.Currents.{word}
-
--- below 4000: raw 2000 is 200.0 A
-pub raw-2000 : offeredTenths (word 2000) ≡ 2000
-unfolding offeredTenths
-raw-2000 = refl
-
--- raw 3988 is 1.2 A
-pub raw-3988 : offeredTenths (word 3988) ≡ 12
-unfolding offeredTenths
-raw-3988 = refl
-
--- above 4000: raw 4500 is 50.0 A
-pub raw-4500 : offeredTenths (word 4500) ≡ 500
-unfolding offeredTenths
-raw-4500 = refl
-
--- raw 8500 is 450.0 A
-pub raw-8500 : offeredTenths (word 8500) ≡ 4500
-unfolding offeredTenths
-raw-8500 = refl
-
--- raw 4100 is 10.0 A
-pub raw-4100 : offeredTenths (word 4100) ≡ 100
-unfolding offeredTenths
-raw-4100 = refl
-
--- raw 8100 is 410.0 A
-pub raw-8100 : offeredTenths (word 8100) ≡ 4100
-unfolding offeredTenths
-raw-8100 = refl
 
 -- the CMP of 000's trace is answered yes
 pub trace-accepted :
