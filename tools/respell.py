@@ -17,7 +17,7 @@ import sys
 DECL = re.compile(r'(?m)^([ \t]*)((?:(?:abbrev|unfoldable|pub|record|data|ruleset)\s+)*)([^\s:(){}.,;|=@"«»`]+)(?:\s*[({][^\n]*?[)}])*\s*(?::(?!:)|=)')
 WORD = re.compile(r'[^\s(){}.;,@"«»`]+')
 FUNCTION = ("Proof.antt", "Answers.antt", "Invariants.antt")
-# A name behind one of these heads is a step, a goal or a field that Rattle makes.
+# In a function's own files a name behind one of these heads is a step, a goal or a field that Rattle makes.
 MADE = re.compile(r"(?:^|[\s(){},;])(?:c|goal|tie|w|l|g)\.$")
 
 
@@ -73,10 +73,10 @@ def table(names):
 EXTRA = {"charged": "Charged"}
 
 
-def turn_words(text, turned):
+def turn_words(text, turned, made=False):
     def one(m):
         w = m[0]
-        if w not in turned or MADE.search(text[max(0, m.start() - 12) : m.start()]):
+        if w not in turned or made and MADE.search(text[max(0, m.start() - 12) : m.start()]):
             return w
         return turned[w]
 
@@ -90,7 +90,7 @@ def turn_comment(text, turned):
     return "`".join(turn_words(p, turned if i % 2 else camel) for i, p in enumerate(parts))
 
 
-def turn_antt(text, turned):
+def turn_antt(text, turned, made):
     turned = {k: v for k, v in turned.items() if k not in lent(text)}
     out = []
     for line in text.split("\n"):
@@ -98,7 +98,7 @@ def turn_antt(text, turned):
             code, dash, comment = line.partition("--")
         else:
             code, dash, comment = line, "", ""
-        out.append(turn_words(code, turned) + dash + turn_comment(comment, turned))
+        out.append(turn_words(code, turned, made) + dash + turn_comment(comment, turned))
     return "\n".join(out)
 
 
@@ -157,7 +157,7 @@ def main():
     changed = 0
     for p in list(walk(root)) + papers:
         if p.endswith(".antt"):
-            new = turn_antt(read(p), turned)
+            new = turn_antt(read(p), turned, os.path.basename(p) in FUNCTION)
         elif p.endswith(".rt"):
             new = turn_rt(read(p), turned)
         elif p.endswith(".edit"):

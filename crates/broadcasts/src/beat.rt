@@ -9,7 +9,7 @@ pub const EACH: u8 = 30;
 // The last tick of two sendings, one without the heartbeat and one with it.
 const LAST: u8 = 2 * EACH - 1;
 
-#[derive(Drop)]
+#[derive(Clone, Copy)]
 pub struct Beat {
     pub tick: u8,
 }

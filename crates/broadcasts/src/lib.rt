@@ -1,5 +1,6 @@
 // The five broadcasts as values, and the beat that says when they are sent and whether the heartbeat is on (01,
 // "Broadcasts and cell answers"). This crate may not know sessions, queries, or the buffer that the frames go into.
+#![tactic(auto)]
 ghost use Rattle.std.specs.Prelude.{◌≡◌};
 ghost use Rattle.cells.specs.InnerBounds.{BoundedCells};
 ghost use Rattle.broadcasts.specs.Layouts.{status_byte, ps_of, cvs_of, cts_of, fws_of, ec_of, broadcasts_of};
@@ -13,7 +14,7 @@ use settings::Versions;
 pub mod beat;
 
 // In the order in which they are sent.
-#[derive(Drop)]
+#[derive(Clone, Copy)]
 pub struct Broadcasts {
     pub ps: Frame,
     pub cvs: Frame,

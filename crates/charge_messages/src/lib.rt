@@ -1,6 +1,7 @@
 // What a station says: a charge message's data bytes as a typed message, or 10 where the content is not allowed (01,
 // "Numbers returned"). Data past a message's fields is not looked at. This crate may not know states, or what a message
 // brings about.
+#![tactic(auto)]
 ghost use Rattle.std.specs.Prelude.{◌≡◌, get_or};
 ghost use Rattle.charge_messages.specs.Content.{cim_of, cvm_of, cmp_of, crm_of, ccs_of, cst_of, cem_of, content_of};
 ghost use Rattle.charge_messages.specs.Content.{content_number, refusal_of};
@@ -9,7 +10,7 @@ use messages::received::Charge;
 use units::{RawAmps, TenthVolts};
 
 // CMP: the station's maximum and minimum voltage, and its maximum and minimum current as the words that they are.
-#[derive(Drop)]
+#[derive(Clone, Copy)]
 pub struct Offer {
     pub highest: TenthVolts,
     pub lowest: TenthVolts,
@@ -18,7 +19,7 @@ pub struct Offer {
 }
 
 // A charge message whose content is allowed; a flag is true where its byte is AA (of CCS, 01).
-#[derive(Drop)]
+#[derive(Clone, Copy)]
 pub enum ChargeMessage {
     Cim,
     Cvm(bool),
@@ -29,7 +30,7 @@ pub enum ChargeMessage {
     Cem,
 }
 
-#[derive(Drop)]
+#[derive(Clone, Copy)]
 pub enum Content {
     Allowed(ChargeMessage),
     Refused(u8),

@@ -1,6 +1,7 @@
 // A frame as it goes on the bus, the record that it is in a buffer, and frames laid one after the other into a lent
 // buffer, with a promise of the buffer's whole later contents. This crate may not know when a frame is due, or what its
 // data mean.
+#![tactic(auto)]
 ghost use Rattle.std.specs.Prelude.{◌≡◌, cond, [], ◌∷◌, ◌+◌, ◌≤◌, length};
 ghost use Rattle.frames.specs.Frame.{record_size, frame_of, frame_record};
 ghost use Rattle.frames.specs.InnerSent.{Sent};
@@ -8,7 +9,7 @@ ghost use Rattle.frames.specs.InnerSent.{Sent};
 use messages::identifier;
 use messages::table::Row;
 
-#[derive(Drop)]
+#[derive(Clone, Copy)]
 pub struct Frame {
     pub id: u32,
     pub length: u8,

@@ -62,8 +62,8 @@ module _ (n a b c d e f : ℕ)
 pub parts_of_number : (p : Identifier) → Within p → parts_of (number_of p) ≡ p
 unfolding number_of
 parts_of_number p w =
-    let r : p.priority % 8 ≡ p.priority = omega (arith, w.priority-3) in
-    let s : p.reserved % 2 ≡ p.reserved = omega (arith, w.reserved-1) in
-    let t : p.page % 2 ≡ p.page = omega (arith, w.page-1) in
+    let r : p.priority % 8 ≡ p.priority = omega (arith, w.priority_3) in
+    let s : p.reserved % 2 ≡ p.reserved = omega (arith, w.reserved_1) in
+    let t : p.page % 2 ≡ p.page = omega (arith, w.page_1) in
     parts_are (number_of p) p.priority p.reserved p.page p.pf p.ps p.source (rw (r, s, t))
-    w.priority-3 w.reserved-1 w.page-1 w.pf-8 w.ps-8 w.source-8
+    w.priority_3 w.reserved_1 w.page_1 w.pf_8 w.ps_8 w.source_8

@@ -4,7 +4,7 @@ ghost use Rattle.messages.specs.Identifier.{parts_of, number_of, ps_part, identi
 
 use crate::table::Row;
 
-#[derive(Drop)]
+#[derive(Clone, Copy)]
 pub struct Identifier {
     pub priority: u8,
     pub reserved: u8,

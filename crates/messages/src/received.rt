@@ -8,7 +8,7 @@ use crate::table;
 use crate::table::Row;
 
 // Station to us.
-#[derive(Drop)]
+#[derive(Clone, Copy)]
 pub enum Charge {
     Cim,
     Cvm,
@@ -20,20 +20,20 @@ pub enum Charge {
 }
 
 // Any node to us: for cell voltages, for cell temperatures.
-#[derive(Drop)]
+#[derive(Clone, Copy)]
 pub enum Query {
     Acv,
     Act,
 }
 
-#[derive(Drop)]
+#[derive(Clone, Copy)]
 pub enum Message {
     Charge(Charge),
     Query(Query),
 }
 
 // The message that something received is, or the number of the refusal.
-#[derive(Drop)]
+#[derive(Clone, Copy)]
 pub enum Recognized {
     As(Message),
     Refused(u8),

@@ -4,7 +4,7 @@ ghost use Rattle.messages.specs.Table.{pf_of, priority_of, length_of, broadcast_
 
 // A message: PF, priority, length (of a received one the least), and the PS of a broadcast (0 where PS is the target).
 // One line a message is what makes the table one to read, so a row has places and not names; the methods name them.
-#[derive(Drop)]
+#[derive(Clone, Copy)]
 pub struct Row(pub u8, pub u8, pub u8, pub u8);
 
 impl Row {

@@ -1,6 +1,7 @@
 // Cell queries: who waits for which table, and what the oldest is answered at a tick, a group of cells as one frame
 // (01, "Broadcasts and cell answers", numbers 12 and 13). Any value of the types is accepted, also one that no run
 // reaches. This crate may not know sessions, broadcasts, or the buffer that a frame goes into.
+#![tactic(auto)]
 use frames::Frame;
 
 pub mod answering;
@@ -8,14 +9,14 @@ pub mod asking;
 pub mod places;
 
 // What a query asks for.
-#[derive(Drop)]
+#[derive(Clone, Copy)]
 pub enum Kind {
     Voltages,
     Temperatures,
 }
 
 // Who asks, for what, and the group that is sent next, from 0.
-#[derive(Drop)]
+#[derive(Clone, Copy)]
 pub struct Query {
     pub source: u8,
     pub kind: Kind,
@@ -23,7 +24,7 @@ pub struct Query {
 }
 
 // The waiting queries, the oldest first: the first `count` of the four places.
-#[derive(Drop)]
+#[derive(Clone, Copy)]
 pub struct Queries {
     pub count: u8,
     pub first: Query,
@@ -33,14 +34,14 @@ pub struct Queries {
 }
 
 // What asking gives: the number, and the queries that wait then.
-#[derive(Drop)]
+#[derive(Clone, Copy)]
 pub struct Queued {
     pub number: u8,
     pub queries: Queries,
 }
 
 // What a tick gives: the queries that wait then, and the frame where one is due.
-#[derive(Drop)]
+#[derive(Clone, Copy)]
 pub struct Answered {
     pub queries: Queries,
     pub due: bool,

@@ -1,12 +1,13 @@
 // The pack's readings that a tick lends: their ranges (01, "Readings", number 15), whether charge is wanted, and how a
 // current is compared and sent. This crate may not know cells, frames or sessions.
+#![tactic(auto)]
 ghost use Rattle.std.specs.Prelude.{◌≡◌};
 ghost use Rattle.readings.specs.Readings.{readings_in_range, wanted_of, above_of, raw_of, bits_of, current_ok};
 
 use units::{RawAmps, Signed, TenthAmps, TenthVolts};
 
 // Two bytes of bits: those that stand now, and those that have been latched.
-#[derive(Drop)]
+#[derive(Clone, Copy)]
 pub struct Marks {
     pub active: u8,
     pub latched: u8,
@@ -14,7 +15,7 @@ pub struct Marks {
 
 // Status bytes one and two, SOC, current (0.1 A, positive into the pack), pack voltage, capacity, and the four fault
 // bytes.
-#[derive(Drop)]
+#[derive(Clone, Copy)]
 pub struct Readings {
     pub one: u8,
     pub two: u8,

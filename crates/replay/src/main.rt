@@ -1,6 +1,7 @@
 // Replays a list of calls: reads them on standard input, a line each (crate replay_script), and writes what the
 // controller answers, sends and enters. This crate reads the input and hands its lines on: it may not know what a line
 // asks for, how an answer is printed, nor any rule of the paper.
+#![tactic(auto)]
 use libc::STDIN_FILENO;
 use replay_host::lines::Run;
 use replay_print::out::Out;
@@ -11,7 +12,7 @@ use replay_text::hex::Bytes;
 use replay_text::{Text, lines};
 
 // A run, how many characters are held of the line that it is in, and whether there may be more input.
-#[derive(Drop)]
+#[derive(Clone, Copy)]
 struct Place {
     run: Run,
     filled: usize,

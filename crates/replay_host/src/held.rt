@@ -14,14 +14,14 @@ use replay_text::hex::Bytes;
 use settings::Written;
 
 // The controller in use, once a settings record was accepted.
-#[derive(Drop)]
+#[derive(Clone, Copy)]
 pub enum Held {
     None,
     Of(Controller),
 }
 
 // The controller in use, the ticks that it has accepted, and the free place of the output.
-#[derive(Drop)]
+#[derive(Clone, Copy)]
 pub struct Kept {
     pub held: Held,
     pub accepted: u64,

@@ -16,7 +16,7 @@ use replay_text::{Text, lines};
 
 // All that a run keeps from line to line, but for the tables and the buffers: the controller with the free place of the
 // output, what ticks are lent, a log's clock, and the line's number.
-#[derive(Drop)]
+#[derive(Clone, Copy)]
 pub struct Run {
     pub kept: Kept,
     pub lent: Lent,

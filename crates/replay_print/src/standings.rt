@@ -9,7 +9,7 @@ use crate::{numerals, out};
 use session_states::states::State;
 
 // A session's state and station, as they are printed. Idle is 0, and has no station.
-#[derive(Drop)]
+#[derive(Clone, Copy)]
 pub struct Standing {
     pub state: u8,
     pub station: u8,

@@ -9,14 +9,14 @@ use replay_text::{Text, after, byte_at, digits};
 const DAY: u64 = 1_728_000;
 
 // The time of a line in microseconds, or none that can be read.
-#[derive(Drop)]
+#[derive(Clone, Copy)]
 pub enum Time {
     At(u64),
     Not,
 }
 
 // Whether a line has set time zero, that time, and the ticks run since by such lines.
-#[derive(Drop)]
+#[derive(Clone, Copy)]
 pub struct Clock {
     pub set: bool,
     pub zero: u64,
@@ -24,7 +24,7 @@ pub struct Clock {
 }
 
 // The ticks to run, and the clock after them; or too many.
-#[derive(Drop)]
+#[derive(Clone, Copy)]
 pub enum Due {
     Ticks(u64, Clock),
     TooMany,

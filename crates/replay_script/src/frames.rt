@@ -14,14 +14,14 @@ use replay_text::{Text, after, byte_at, digits, hex, words};
 const MOST: usize = 64;
 
 // An identifier, of 1 to 8 hex digits before the `#`, and the place past that; or none.
-#[derive(Drop)]
+#[derive(Clone, Copy)]
 enum Identifier {
     Of(u32, usize),
     Not,
 }
 
 // A frame: its identifier and the number of its data bytes; or none.
-#[derive(Drop)]
+#[derive(Clone, Copy)]
 enum Received {
     Frame(u32, usize),
     Not,

@@ -13,7 +13,7 @@ pub type Voltages = [u16; 512];
 pub type Temperatures = [i16; 512];
 
 // The readings, and how much of each table and of the buffer.
-#[derive(Drop)]
+#[derive(Clone, Copy)]
 pub struct Lent {
     pub readings: Readings,
     pub volts: usize,

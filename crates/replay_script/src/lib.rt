@@ -6,6 +6,7 @@
 // then write N                         the settings in use, into a buffer of N bytes Besides, what each tick is lent,
 // and which ticks are due by a log's clock. This crate may not know any controller, what a call comes to, nor any rule
 // of the paper.
+#![tactic(auto)]
 ghost use Rattle.std.specs.Prelude.{◌≡◌};
 ghost use Rattle.replay_script.specs.Lines.{kind_in, asks_of, bytes_of, volts_of, temps_of};
 ghost use Rattle.replay_script.specs.Lines.{is_longer, asked_in, bytes_after, volts_after, temps_after};
@@ -26,7 +27,7 @@ pub mod ticks;
 // temperatures or a buffer of such a length lent to later ticks; so many ticks; a received frame, by its identifier and
 // the number of its data bytes; such a frame at a log's time, in microseconds; the settings in use written into so many
 // bytes. The bytes and the entries of tables stand in arrays beside it. A line that is none of these cannot be read.
-#[derive(Drop)]
+#[derive(Clone, Copy)]
 pub enum Asked {
     Nothing,
     Settings(usize),
@@ -42,7 +43,7 @@ pub enum Asked {
 }
 
 // The kinds of line, by their first word.
-#[derive(Drop)]
+#[derive(Clone, Copy)]
 enum Kind {
     Settings,
     Readings,

@@ -16,7 +16,7 @@ const MOST_TICKS: u64 = 10_000_000;
 const MOST_ROOM: u64 = 4096;
 
 // The length of a buffer; or a line that cannot be read.
-#[derive(Drop)]
+#[derive(Clone, Copy)]
 pub enum Length {
     Of(usize),
     Not,

@@ -5,7 +5,7 @@ ghost use Rattle.replay_text.specs.Digits.{digit_of, with_digit, digits_at};
 use crate::{Text, length_of};
 
 // Digits as far as they go: how many, what they come to, and the place past them.
-#[derive(Drop)]
+#[derive(Clone, Copy)]
 pub struct Digits {
     pub count: usize,
     pub value: u64,

@@ -11,7 +11,7 @@ use crate::{Text, after, length_of};
 pub type Bytes = [u8; 2048];
 
 // Bytes in hex: how many, and the place past them; or half of one.
-#[derive(Drop)]
+#[derive(Clone, Copy)]
 pub enum Hex {
     Bytes(usize, usize),
     Not,

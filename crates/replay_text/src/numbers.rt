@@ -6,7 +6,7 @@ use crate::words::Word;
 use crate::{Text, after, byte_at, digits, words};
 
 // A decimal number with its sign, or none.
-#[derive(Drop)]
+#[derive(Clone, Copy)]
 pub enum Number {
     Plus(u64),
     Minus(u64),
@@ -14,7 +14,7 @@ pub enum Number {
 }
 
 // The next word as a number that is to lie from 0 up to a bound: whether it does, the number, and the place past it.
-#[derive(Drop)]
+#[derive(Clone, Copy)]
 pub struct UpTo {
     pub good: bool,
     pub value: u64,
@@ -22,7 +22,7 @@ pub struct UpTo {
 }
 
 // The next word as a signed 16-bit number, likewise.
-#[derive(Drop)]
+#[derive(Clone, Copy)]
 pub struct Signed {
     pub good: bool,
     pub value: i16,

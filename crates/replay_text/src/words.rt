@@ -5,7 +5,7 @@ ghost use Rattle.replay_text.specs.Words.{is_gap, past_gaps, word_end, next_word
 use crate::{Text, after, byte_at, length_of};
 
 // The part of the text from a place up to another; empty where there is no word.
-#[derive(Drop)]
+#[derive(Clone, Copy)]
 pub struct Word {
     pub from: usize,
     pub to: usize,

@@ -1,6 +1,7 @@
 // A charge session: what a message of its station and what a tick make of it, and the frames that a tick sends to its
 // station (01, "Session by message", "Session by tick"). A library on values: it may not know settings bytes, addresses
 // of others, queries, broadcasts or buffers.
+#![tactic(auto)]
 ghost use Rattle.std.specs.Prelude.{◌≡◌};
 ghost use Rattle.session.specs.Session.{idle_session, with_station, with_silence, with_count, with_state, begun, opened};
 ghost use Rattle.session.specs.Message.{message_of};
@@ -20,7 +21,7 @@ pub mod outcome;
 
 // The state with its count, the silence count, and the station that the session is with. In Idle the three numbers are
 // 0.
-#[derive(Drop)]
+#[derive(Clone, Copy)]
 pub struct Session {
     pub station: u8,
     pub silence: u8,
@@ -29,14 +30,14 @@ pub struct Session {
 }
 
 // What a message comes to: 0 or 11, and the next session.
-#[derive(Drop)]
+#[derive(Clone, Copy)]
 pub struct Taken {
     pub number: u8,
     pub session: Session,
 }
 
 // Up to three frames: the first `count` of the places.
-#[derive(Drop)]
+#[derive(Clone, Copy)]
 pub struct ChargeFrames {
     pub count: u8,
     pub first: Frame,
@@ -45,7 +46,7 @@ pub struct ChargeFrames {
 }
 
 // What a tick comes to: the next session, and the frames it sends.
-#[derive(Drop)]
+#[derive(Clone, Copy)]
 pub struct Ticked {
     pub session: Session,
     pub frames: ChargeFrames,

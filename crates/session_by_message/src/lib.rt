@@ -1,6 +1,7 @@
 // What a charge message of the session's station comes to in each state (01, "Session by message"): an outcome a state
 // and message, a line each, read against the paper, and the yes rule of CMP. This crate may not know addresses,
 // silence, ticks or frames; that a frame has gone out it tells by the state's count.
+#![tactic(auto)]
 ghost use Rattle.std.specs.Prelude.{◌≡◌};
 ghost use Rattle.session_by_message.specs.Message.{outcome_number};
 
@@ -10,7 +11,7 @@ pub mod message;
 pub mod offer;
 
 // What a charge message comes to.
-#[derive(Drop)]
+#[derive(Clone, Copy)]
 pub enum Outcome {
     // 11, and nothing changes.
     Refuse,

@@ -1,6 +1,7 @@
 // What a tick makes of a session's state, before any frame (01, "Session by tick"): silence, charge not wanted, the
 // stops of Charging in their order, the phase, the EST bytes fixed at Stopping's first tick, and the ends of Stopping
 // and Error. This crate may not know addresses, frames or how counts go on.
+#![tactic(auto)]
 ghost use Rattle.std.specs.Prelude.{◌≡◌, cond, ◌≤◌};
 ghost use Rattle.session_by_tick.specs.Turns.{cell_full, pack_full, current_above, is_other, est_first, est_second, stop_of, est_of, waiting_of, phase_turn, stops_of, charging_of, stopping_of, error_of, turn_of};
 
@@ -11,7 +12,7 @@ use session_states::phases::{Cause, Phase, PhaseAfter};
 use session_states::states::{Est, State};
 use settings::Settings;
 
-#[derive(Drop)]
+#[derive(Clone, Copy)]
 pub enum Turn {
     // The state goes on, its count with it.
     On(State),

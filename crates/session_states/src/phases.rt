@@ -5,7 +5,7 @@ ghost use Rattle.session_states.specs.Phases.{start_phase, drive_rules, hold_rul
 use crate::{counts, limits};
 use units::TenthAmps;
 
-#[derive(Drop)]
+#[derive(Clone, Copy)]
 pub enum Phase {
     // The request R, which of the six Drives it is, and the ticks it has had.
     Drive {
@@ -25,7 +25,7 @@ pub enum Phase {
 }
 
 // Why a charge stops: what EST byte 1 tells apart.
-#[derive(Drop)]
+#[derive(Clone, Copy)]
 pub enum Cause {
     PackVoltage,
     HoldCell,
@@ -33,7 +33,7 @@ pub enum Cause {
 }
 
 // What a tick makes of a phase.
-#[derive(Drop)]
+#[derive(Clone, Copy)]
 pub enum PhaseAfter {
     On(Phase),
     Stop(Cause),

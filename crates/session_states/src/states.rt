@@ -6,13 +6,13 @@ use crate::phases::Phase;
 use units::TenthAmps;
 
 // EST bytes 1 and 2: fixed at Stopping's first tick, and awaited until then where a message entered Stopping.
-#[derive(Drop)]
+#[derive(Clone, Copy)]
 pub enum Est {
     Awaited,
     Fixed(u8, u8),
 }
 
-#[derive(Drop)]
+#[derive(Clone, Copy)]
 pub enum State {
     Idle,
     Offered,

@@ -1,6 +1,7 @@
 // The settings record: read from bytes and written as bytes, and the range of each value (01, "Settings record",
 // numbers 1, 2 and 17). Reading and writing take anything: any bytes, any settings value, any buffer. This crate may
 // not know frames or sessions.
+#![tactic(auto)]
 use units::{HundredthVolts, SentDegrees, TenthAmps, TenthVolts};
 
 pub mod range;
@@ -8,7 +9,7 @@ pub mod read;
 pub mod write;
 
 // The stations of the list: the first `count` of the four places.
-#[derive(Drop)]
+#[derive(Clone, Copy)]
 pub struct Stations {
     pub count: u16,
     pub first: u8,
@@ -17,7 +18,7 @@ pub struct Stations {
     pub fourth: u8,
 }
 
-#[derive(Drop)]
+#[derive(Clone, Copy)]
 pub struct Versions {
     pub first: u8,
     pub second: u8,
@@ -27,7 +28,7 @@ pub struct Versions {
 }
 
 // The four maxima: of a cell's voltage, of the current, of the pack voltage and of a cell's temperature.
-#[derive(Drop)]
+#[derive(Clone, Copy)]
 pub struct Limits {
     pub cell: HundredthVolts,
     pub current: TenthAmps,
@@ -36,7 +37,7 @@ pub struct Limits {
 }
 
 // Own address, the maxima, the stations and the versions, in the order of the record.
-#[derive(Drop)]
+#[derive(Clone, Copy)]
 pub struct Settings {
     pub own: u8,
     pub limits: Limits,
@@ -45,14 +46,14 @@ pub struct Settings {
 }
 
 // What reading a record gives: the settings, or the number of the refusal.
-#[derive(Drop)]
+#[derive(Clone, Copy)]
 pub enum SettingsRead {
     Read(Settings),
     Refused(u8),
 }
 
 // What writing gives: the number, and the bytes written.
-#[derive(Drop)]
+#[derive(Clone, Copy)]
 pub struct Written {
     pub number: u8,
     pub bytes: usize,

@@ -1,6 +1,7 @@
 // What a tick sends, laid into the lent buffer: the session's frames, the broadcasts where they are due, and the cell
 // frame where one is due (01, "Session by tick", "Broadcasts and cell answers"). This crate may not know controllers,
 // cell queries or refusals: its caller shows that the buffer has room and that the cells were accepted.
+#![tactic(auto)]
 ghost use Rattle.std.specs.Prelude.{cond, [], ◌∷◌, ◌++◌, ◌+◌, ◌*◌, ◌≤◌, length};
 ghost use Rattle.frames.specs.Frame.{record_size};
 ghost use Rattle.frames.specs.InnerSent.{Sent};

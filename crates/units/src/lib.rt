@@ -2,28 +2,29 @@
 // conversion that says so (01, "What the box does"). Values are compared by the methods here. A signed number is taken
 // apart by its sign, in one place, so that all that is said of it elsewhere is said of plain numbers. This crate may
 // not know messages, settings or states.
+#![tactic(auto)]
 ghost use Rattle.std.specs.Prelude.{◌≡◌, leb, ltb};
 ghost use Rattle.units.specs.Units.{lesser_of, in_series, lesser_amps, halved_amps, raw_amps};
 ghost use Rattle.units.specs.InnerSigned.{signed_of};
 
 // A pack voltage: 0.1 V.
-#[derive(Drop)]
+#[derive(Clone, Copy)]
 pub struct TenthVolts(pub u16);
 
 // A cell voltage: 0.01 V.
-#[derive(Drop)]
+#[derive(Clone, Copy)]
 pub struct HundredthVolts(pub u16);
 
 // A current of 0 or more, a limit, a request or an offer: 0.1 A.
-#[derive(Drop)]
+#[derive(Clone, Copy)]
 pub struct TenthAmps(pub u16);
 
 // A current as the 16-bit word of a frame, where 4000 is 0 A. What another word means is told by its message's rule.
-#[derive(Drop)]
+#[derive(Clone, Copy)]
 pub struct RawAmps(pub u16);
 
 // A cell temperature as it is sent: degrees F + 50.
-#[derive(Drop)]
+#[derive(Clone, Copy)]
 pub struct SentDegrees(pub u16);
 
 // The smaller of two.
@@ -106,7 +107,7 @@ impl TenthAmps {
 }
 
 // A signed number by its sign.
-#[derive(Drop)]
+#[derive(Clone, Copy)]
 pub enum Signed {
     // 0 or more: the number.
     NotBelow(u16),
