@@ -16,6 +16,7 @@ pub struct Identifier {
 
 impl Identifier {
     // The parts of an identifier.
+    #[tactic(auto, unfolding(crate::specs::Identifier::parts_of))]
     pub fn parts(id: u32) -> Identifier
         ensures { result ≡ parts_of id }
     {
@@ -30,6 +31,7 @@ impl Identifier {
     }
 
     // The identifier of the parts, each in its own bits.
+    #[tactic(auto, unfolding(crate::specs::Identifier::number_of))]
     pub fn number(self) -> u32
         ensures { result ≡ number_of self }
     {

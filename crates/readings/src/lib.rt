@@ -27,6 +27,7 @@ pub struct Readings {
     pub warnings: Marks,
 }
 
+#[tactic(auto, unfolding(crate::specs::Readings::current_ok))]
 fn current_ok(c: i16) -> bool
     ensures { result ≡ current_ok c }
 {
@@ -38,6 +39,7 @@ fn current_ok(c: i16) -> bool
 
 // A current as a raw word: 4000 minus it, with its sign. (One above 4000 is outside its range, and then this is how far
 // above.)
+#[tactic(auto, unfolding(crate::specs::Readings::raw_of))]
 fn raw(c: i16) -> u16
     ensures { result ≡ raw_of c }
 {
@@ -48,6 +50,7 @@ fn raw(c: i16) -> u16
 }
 
 // A current above a maximum.
+#[tactic(auto, unfolding(crate::specs::Readings::above_of))]
 fn above(c: i16, maximum: TenthAmps) -> bool
     ensures { result ≡ above_of c maximum }
 {
@@ -58,6 +61,7 @@ fn above(c: i16, maximum: TenthAmps) -> bool
 }
 
 // The bits of a current, as two's complement.
+#[tactic(auto, unfolding(crate::specs::Readings::bits_of))]
 fn bits(c: i16) -> u16
     ensures { result ≡ bits_of c }
 {
@@ -68,6 +72,7 @@ fn bits(c: i16) -> u16
 }
 
 impl Readings {
+    #[tactic(auto, unfolding(crate::specs::Readings::readings_in_range))]
     pub fn in_range(self) -> bool
         ensures { result ≡ readings_in_range self }
     {
@@ -76,6 +81,7 @@ impl Readings {
     }
 
     // 80 hex set and 20 hex clear in status byte two, and none of bits 8 to 2 of the active faults.
+    #[tactic(auto, unfolding(crate::specs::Readings::wanted_of))]
     pub fn wanted(self) -> bool
         ensures { result ≡ wanted_of self }
     {

@@ -40,6 +40,7 @@ pub enum PhaseAfter {
 }
 
 // The first phase: the request is the smaller of the two maxima, and under the least it holds.
+#[tactic(auto, unfolding(crate::specs::Phases::start_phase))]
 pub fn start_phase(maximum: TenthAmps, station: TenthAmps) -> Phase
     ensures { result ≡ start_phase maximum station }
 {
@@ -55,6 +56,7 @@ pub fn start_phase(maximum: TenthAmps, station: TenthAmps) -> Phase
     }
 }
 
+#[tactic(auto, unfolding(crate::specs::Phases::drive_rules))]
 fn drive_rules(request: TenthAmps, cycle: u8, time: u16, cell: bool) -> PhaseAfter
     ensures { result ≡ drive_rules request cycle time cell }
 {
@@ -75,6 +77,7 @@ fn drive_rules(request: TenthAmps, cycle: u8, time: u16, cell: bool) -> PhaseAft
     }
 }
 
+#[tactic(auto, unfolding(crate::specs::Phases::hold_rules))]
 fn hold_rules(time: u16, cell: bool) -> PhaseAfter
     ensures { result ≡ hold_rules time cell }
 {
@@ -88,6 +91,7 @@ fn hold_rules(time: u16, cell: bool) -> PhaseAfter
 }
 
 // The phase that follows a Rest, under its own rules from its first tick.
+#[tactic(auto, unfolding(crate::specs::Phases::after_rest))]
 fn after_rest(request: TenthAmps, cycle: u8, cell: bool) -> PhaseAfter
     ensures { result ≡ after_rest request cycle cell }
 {
@@ -103,6 +107,7 @@ fn after_rest(request: TenthAmps, cycle: u8, cell: bool) -> PhaseAfter
 
 impl Phase {
     // The phase after this tick's rules: time limits first, then the cell rule.
+    #[tactic(auto, unfolding(crate::specs::Phases::phase_after))]
     pub fn after_tick(self, cell: bool) -> PhaseAfter
         ensures { result ≡ phase_after self cell }
     {
@@ -132,6 +137,7 @@ impl Phase {
     }
 
     // One tick older.
+    #[tactic(auto, unfolding(crate::specs::Phases::aged_of))]
     pub fn aged(self) -> Phase
         ensures { result ≡ aged_of self }
     {

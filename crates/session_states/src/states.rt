@@ -27,6 +27,7 @@ pub enum State {
 
 impl State {
     // No session.
+    #[tactic(auto, unfolding(crate::specs::States::is_idle))]
     pub fn is_idle(self) -> bool
         ensures { result ≡ is_idle self }
     {
