@@ -1,6 +1,7 @@
 // Lent bytes. Reading a byte or a word of a slice, in it or past its end, and laying bytes into a lent buffer with a
 // promise of all that the buffer then holds. This crate may not know what the bytes mean.
 #![tactic(auto)]
+
 ghost use Rattle.std.specs.Prelude.{◌≡◌, ◌+◌, ◌≤◌, ◌<◌, length, get_or};
 ghost use Rattle.buffers.specs.InnerLaid.{Laid};
 ghost use Rattle.buffers.specs.Words.{word_at};

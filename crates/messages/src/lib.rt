@@ -3,6 +3,7 @@
 // the table; the nine received PFs stand once more in a match, proved to agree with it, and no message number stands
 // anywhere else. This crate may not know states, settings or what a message's data mean.
 #![tactic(auto)]
+
 pub mod identifier;
 pub mod received;
 pub mod table;
