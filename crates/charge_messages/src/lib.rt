@@ -2,6 +2,7 @@
 // "Numbers returned"). Data past a message's fields is not looked at. This crate may not know states, or what a message
 // brings about.
 #![tactic(auto)]
+
 ghost use Rattle.std.specs.Prelude.{◌≡◌, get_or};
 ghost use Rattle.charge_messages.specs.Content.{cim_of, cvm_of, cmp_of, crm_of, ccs_of, cst_of, cem_of, content_of};
 ghost use Rattle.charge_messages.specs.Content.{content_number, refusal_of};
@@ -110,6 +111,7 @@ fn cem(c: u8) -> Content
 }
 
 // The message that the data bytes are; a byte past the end counts as 0.
+#[tactic(auto, unfolding(crate::specs::Content::content_of))]
 pub fn read_content(m: Charge, bytes: &[u8]) -> Content
     ensures number { content_number result ≡ refusal_of m bytes.now }
     ensures answer { result ≡ content_of m bytes.now }

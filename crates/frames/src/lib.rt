@@ -2,6 +2,7 @@
 // buffer, with a promise of the buffer's whole later contents. This crate may not know when a frame is due, or what its
 // data mean.
 #![tactic(auto)]
+
 ghost use Rattle.std.specs.Prelude.{◌≡◌, cond, [], ◌∷◌, ◌+◌, ◌≤◌, length};
 ghost use Rattle.frames.specs.Frame.{record_size, frame_of, frame_record};
 ghost use Rattle.frames.specs.InnerSent.{Sent};
@@ -35,6 +36,7 @@ impl Frame {
     }
 
     // Identifier in 4 bytes little endian, the length (8 in every row that we send), the data.
+    #[tactic(auto, unfolding(crate::specs::Frame::frame_record))]
     pub fn record(self) -> [u8; Self::RECORD]
         ensures { result ≡ frame_record self }
     {

@@ -2,6 +2,7 @@
 // numbers 1, 2 and 17). Reading and writing take anything: any bytes, any settings value, any buffer. This crate may
 // not know frames or sessions.
 #![tactic(auto)]
+
 use units::{HundredthVolts, SentDegrees, TenthAmps, TenthVolts};
 
 pub mod range;

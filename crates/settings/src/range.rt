@@ -25,6 +25,7 @@ pub const LEAST_STATIONS: u16 = 1;
 
 pub const MOST_STATIONS: u16 = 4;
 
+#[tactic(auto, unfolding(crate::specs::Range::within))]
 pub fn within(least: u16, most: u16, n: u16) -> bool
     ensures { result ≡ within least most n }
 {
@@ -57,6 +58,7 @@ fn good_stations(own: u8, s: Stations) -> bool
 }
 
 // Each of the maxima.
+#[tactic(auto, unfolding(crate::specs::Range::limits_in_range))]
 fn limits_in_range(l: Limits) -> bool
     ensures { result ≡ limits_in_range l }
 {
@@ -67,6 +69,7 @@ fn limits_in_range(l: Limits) -> bool
     cell & (current & (pack & temperature))
 }
 
+#[tactic(auto, unfolding(crate::specs::Range::in_range))]
 pub fn in_range(x: Settings) -> bool
     ensures { result ≡ in_range x }
 {

@@ -7,6 +7,7 @@ use crate::{Limits, Settings, SettingsRead, Stations, Versions, range};
 use units::{HundredthVolts, SentDegrees, TenthAmps, TenthVolts};
 
 // A field's tag and its two-byte length at a place.
+#[tactic(auto, unfolding(crate::specs::Read::head_at))]
 fn head(s: &[u8], at: usize, tag: u8, n: u16) -> bool
     requires { at ≤ 0x2_0000 }
     ensures { result ≡ head_at s.now at tag n }
@@ -17,6 +18,7 @@ fn head(s: &[u8], at: usize, tag: u8, n: u16) -> bool
 }
 
 // Each field once, in its order and place, with nothing after.
+#[tactic(auto, unfolding(crate::specs::Read::layout_of))]
 fn layout(s: &[u8]) -> bool
     ensures { result ≡ layout_of s.now }
 {
@@ -38,6 +40,7 @@ fn layout(s: &[u8]) -> bool
 }
 
 // A station of the record, and 0 past the last.
+#[tactic(auto, unfolding(crate::specs::Read::station_at))]
 fn station(s: &[u8], n: u16, i: u16) -> u8
     ensures { result ≡ station_at s.now n i }
 {
@@ -48,6 +51,7 @@ fn station(s: &[u8], n: u16, i: u16) -> u8
     }
 }
 
+#[tactic(auto, unfolding(crate::specs::Read::stations_at))]
 fn stations(s: &[u8], n: u16) -> Stations
     ensures { result ≡ stations_at s.now n }
 {
@@ -60,6 +64,7 @@ fn stations(s: &[u8], n: u16) -> Stations
     }
 }
 
+#[tactic(auto, unfolding(crate::specs::Read::versions_at))]
 fn versions(s: &[u8], at: usize) -> Versions
     requires { at ≤ 0x2_0000 }
     ensures { result ≡ versions_at s.now at }
@@ -74,6 +79,7 @@ fn versions(s: &[u8], at: usize) -> Versions
 }
 
 // The maxima of a record whose layout is right.
+#[tactic(auto, unfolding(crate::specs::Read::limits_of))]
 fn limits(s: &[u8]) -> Limits
     ensures { result ≡ limits_of s.now }
 {
@@ -86,6 +92,7 @@ fn limits(s: &[u8]) -> Limits
 }
 
 // The values of a record whose layout is right.
+#[tactic(auto, unfolding(crate::specs::Read::settings_of))]
 fn values(s: &[u8]) -> Settings
     ensures { result ≡ settings_of s.now }
 {
@@ -99,6 +106,7 @@ fn values(s: &[u8]) -> Settings
 }
 
 // The settings of a record, or the number of the refusal.
+#[tactic(auto, unfolding(crate::specs::Read::record_number, crate::specs::Read::read_of))]
 pub fn read_settings(s: &[u8]) -> SettingsRead
     ensures number { answer_number result ≡ record_number s.now }
     ensures answer { result ≡ read_of s.now }

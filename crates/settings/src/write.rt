@@ -8,6 +8,7 @@ ghost use Rattle.settings.specs.Write.{Wrote};
 use crate::{Settings, Written, range};
 
 // The bytes of the record up to its stations: tags 1 to 5 whole, and tag 6's tag and length.
+#[tactic(auto, unfolding(crate::specs::Record::record_of))]
 fn front(x: Settings) -> [u8; 27]
     requires { x.stations.count ≤ 4 }
     ensures { (length result ≡ 27)
