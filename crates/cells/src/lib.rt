@@ -5,6 +5,7 @@
 // A lent table is a slice of plain numbers, `&[u16]` or `&[i16]`: a slice of a unit's type would be a slice of structs,
 // which the prover does not cover. The unit is put on where figures are kept, in `Voltages` and `Temperatures`.
 #![tactic(auto)]
+
 pub mod figures;
 pub mod groups;
 mod heat;
