@@ -13,6 +13,7 @@ pub struct Digits {
 }
 
 // The value of a digit, of either case, or 255 where it is none.
+#[tactic(auto, unfolding(crate::specs::Digits::digit_of))]
 pub fn digit(b: u8) -> u8
     ensures { result ≡ digit_of b }
 {
@@ -25,6 +26,7 @@ pub fn digit(b: u8) -> u8
 }
 
 // One digit more. A value that passes what any line may hold stays there.
+#[tactic(auto, unfolding(crate::specs::Digits::with_digit))]
 fn with_digit(value: u64, base: u8, x: u8) -> u64
     ensures { result ≡ with_digit base value x }
 {

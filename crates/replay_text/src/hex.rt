@@ -18,6 +18,7 @@ pub enum Hex {
 }
 
 // The value of the hex digit at a place, or more than any where there is none. It stands within the text.
+#[tactic(auto, unfolding(crate::specs::Digits::digit_of))]
 fn digit_at(text: &Text, at: usize) -> u8
     ensures value { result ≡ digit_of (byte_at text.now at) }
     ensures within { result < 16 → at < 65536 }

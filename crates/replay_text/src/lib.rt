@@ -2,6 +2,7 @@
 // these are. A line is read with the newline that ends it, so that a walk along it stops there by itself. This crate
 // may not know what a line asks for, nor any controller.
 #![tactic(auto)]
+
 ghost use Rattle.std.specs.Prelude.{◌≡◌, length};
 ghost use Rattle.replay_text.specs.Chars.{byte_at, next_place};
 

@@ -63,6 +63,7 @@ pub fn moved(text: &mut Text, from: usize, n: usize) -> usize
 // The beginning of a line, of which the first n characters are held: how many are kept of them. Of a line that is too
 // long to be read only that it is so matters, and whether it is blank or a comment: so one character more than a line
 // may have is kept, and where all before that one are gaps, the first that is none stands in its place.
+#[tactic(auto, unfolding(crate::specs::Lines::kept_of, crate::specs::Lines::shortened_of))]
 pub fn shortened(text: &mut Text, n: usize) -> usize
     ensures answer { result ≡ kept_of n }
     ensures later { text.new ≡ shortened_of text.old n }

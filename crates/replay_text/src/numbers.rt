@@ -30,6 +30,7 @@ pub struct Signed {
 }
 
 // The place past a word's sign, where it has one.
+#[tactic(auto, unfolding(crate::specs::Numbers::past_sign))]
 fn past_sign(text: &Text, from: usize) -> usize
     ensures { result ≡ past_sign text.now from }
 {
@@ -42,6 +43,7 @@ fn past_sign(text: &Text, from: usize) -> usize
 }
 
 // The word as a decimal number with a sign or none.
+#[tactic(auto, unfolding(crate::specs::Numbers::number_in, crate::specs::Numbers::number_of))]
 fn read_number(text: &Text, w: Word) -> Number
     ensures { result ≡ number_in text.now w }
 {
@@ -59,6 +61,7 @@ fn read_number(text: &Text, w: Word) -> Number
 }
 
 // The next number, from 0 up to so much.
+#[tactic(auto, unfolding(crate::specs::Numbers::up_to_in, crate::specs::Numbers::up_to_of))]
 pub fn next_up_to(text: &Text, from: usize, most: u64) -> UpTo
     ensures { result ≡ up_to_in text.now from most }
 {
@@ -83,6 +86,7 @@ pub fn next_up_to(text: &Text, from: usize, most: u64) -> UpTo
 }
 
 // The next number, signed and of 16 bits.
+#[tactic(auto, unfolding(crate::specs::Numbers::signed_in, crate::specs::Numbers::signed_of))]
 pub fn next_signed(text: &Text, from: usize) -> Signed
     ensures { result ≡ signed_in text.now from }
 {
@@ -107,6 +111,7 @@ pub fn next_signed(text: &Text, from: usize) -> Signed
 }
 
 // The one number from a place to the end of the line, from 0 up to so much.
+#[tactic(auto, unfolding(crate::specs::Numbers::only_in))]
 pub fn only_up_to(text: &Text, from: usize, most: u64) -> UpTo
     ensures { result ≡ only_in text.now from most }
 {
@@ -116,6 +121,7 @@ pub fn only_up_to(text: &Text, from: usize, most: u64) -> UpTo
 }
 
 // Up to 32767, and 0 above.
+#[tactic(auto, unfolding(crate::specs::Numbers::plus_of))]
 fn positive(x: u64) -> i16
     ensures { result ≡ plus_of x }
 {
@@ -123,6 +129,7 @@ fn positive(x: u64) -> i16
 }
 
 // Down to -32768, which also stands for all below.
+#[tactic(auto, unfolding(crate::specs::Numbers::minus_of))]
 fn negative(x: u64) -> i16
     ensures { result ≡ minus_of x }
 {

@@ -12,6 +12,7 @@ pub struct Word {
 }
 
 // A space, a tab or a carriage return: what stands between words.
+#[tactic(auto, unfolding(crate::specs::Words::is_gap))]
 pub fn is_gap(b: u8) -> bool
     ensures { result ≡ is_gap b }
 {
@@ -50,6 +51,7 @@ pub fn word_end(text: &Text, from: usize) -> usize
 }
 
 // The first word from a place on.
+#[tactic(auto, unfolding(crate::specs::Words::next_word))]
 pub fn next_word(text: &Text, from: usize) -> Word
     ensures { result ≡ next_word text.now from }
 {
@@ -61,6 +63,7 @@ pub fn next_word(text: &Text, from: usize) -> Word
 }
 
 // Whether the line has no word from a place on.
+#[tactic(auto, unfolding(crate::specs::Words::is_end))]
 pub fn is_end(text: &Text, from: usize) -> bool
     ensures { result ≡ is_end text.now from }
 {
