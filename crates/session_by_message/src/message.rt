@@ -10,6 +10,7 @@ use settings::Settings;
 use units::TenthAmps;
 
 // A CMP, the entering one too, sets yes or no and returns the count to 0.
+#[tactic(auto, unfolding(crate::specs::Message::ready_of))]
 fn ready(x: Settings, o: Offer) -> Outcome
     ensures { result ≡ ready_of x o }
 {
@@ -38,6 +39,7 @@ fn end_by_cem() -> Outcome
     Outcome::End
 }
 
+#[tactic(auto, unfolding(crate::specs::Message::in_idle))]
 fn in_idle(m: ChargeMessage) -> Outcome
     ensures { result ≡ in_idle m }
 {
@@ -47,6 +49,7 @@ fn in_idle(m: ChargeMessage) -> Outcome
     }
 }
 
+#[tactic(auto, unfolding(crate::specs::Message::in_offered))]
 fn in_offered(count: u16, m: ChargeMessage) -> Outcome
     ensures { result ≡ in_offered count m }
 {
@@ -69,6 +72,7 @@ fn in_offered(count: u16, m: ChargeMessage) -> Outcome
     }
 }
 
+#[tactic(auto, unfolding(crate::specs::Message::in_unverified))]
 fn in_unverified(m: ChargeMessage) -> Outcome
     ensures { result ≡ in_unverified m }
 {
@@ -87,6 +91,7 @@ fn in_unverified(m: ChargeMessage) -> Outcome
     }
 }
 
+#[tactic(auto, unfolding(crate::specs::Message::in_parameters))]
 fn in_parameters(x: Settings, count: u16, m: ChargeMessage) -> Outcome
     ensures { result ≡ in_parameters x count m }
 {
@@ -112,6 +117,7 @@ fn in_parameters(x: Settings, count: u16, m: ChargeMessage) -> Outcome
     }
 }
 
+#[tactic(auto, unfolding(crate::specs::Message::crm_in_ready))]
 fn crm_in_ready(x: Settings, accepted: bool, maximum: TenthAmps, count: u16, go: bool) -> Outcome
     ensures { result ≡ crm_in_ready x accepted maximum count go }
 {
@@ -126,6 +132,7 @@ fn crm_in_ready(x: Settings, accepted: bool, maximum: TenthAmps, count: u16, go:
     }
 }
 
+#[tactic(auto, unfolding(crate::specs::Message::in_ready))]
 fn in_ready(
     x: Settings,
     accepted: bool,
@@ -145,6 +152,7 @@ fn in_ready(
     }
 }
 
+#[tactic(auto, unfolding(crate::specs::Message::in_charging))]
 fn in_charging(m: ChargeMessage) -> Outcome
     ensures { result ≡ in_charging m }
 {
@@ -165,6 +173,7 @@ fn in_charging(m: ChargeMessage) -> Outcome
     }
 }
 
+#[tactic(auto, unfolding(crate::specs::Message::in_stopping))]
 fn in_stopping(est: Est, count: u16, m: ChargeMessage) -> Outcome
     ensures { result ≡ in_stopping est count m }
 {
@@ -188,6 +197,7 @@ fn in_stopping(est: Est, count: u16, m: ChargeMessage) -> Outcome
     }
 }
 
+#[tactic(auto, unfolding(crate::specs::Message::in_error))]
 fn in_error(m: ChargeMessage) -> Outcome
     ensures { result ≡ in_error m }
 {
@@ -198,6 +208,7 @@ fn in_error(m: ChargeMessage) -> Outcome
 }
 
 // What a charge message of the session's station (in Idle: of a listed one) comes to.
+#[tactic(auto, unfolding(crate::specs::Message::outcome_of))]
 pub fn outcome(x: Settings, state: State, count: u16, m: ChargeMessage) -> Outcome
     ensures { result ≡ outcome_of x state count m }
 {

@@ -8,6 +8,7 @@ use settings::Settings;
 use units::{RawAmps, TenthAmps};
 
 // What a current word of a CMP means, in tenths of an ampere: its distance from 4000, either side.
+#[tactic(auto, unfolding(crate::specs::Offer::offered_tenths))]
 fn offered(raw: RawAmps) -> TenthAmps
     ensures { result.0 ≡ offered_tenths raw }
 {
@@ -20,6 +21,7 @@ fn offered(raw: RawAmps) -> TenthAmps
 
 // min voltage <= maximum pack voltage <= max voltage, 0 <= min current <= max current, min current <= maximum current.
 // A distance is never below 0, so that is not tested.
+#[tactic(auto, unfolding(crate::specs::Offer::accepted_of))]
 pub fn accepted(x: Settings, o: Offer) -> bool
     ensures { result ≡ accepted_of x o }
 {
@@ -33,6 +35,7 @@ pub fn accepted(x: Settings, o: Offer) -> bool
 }
 
 // The station's maximum current.
+#[tactic(auto, unfolding(crate::specs::Offer::station_maximum))]
 pub fn station_maximum(o: Offer) -> TenthAmps
     ensures { result ≡ station_maximum o }
 {
