@@ -1,6 +1,7 @@
 // The five broadcasts as values, and the beat that says when they are sent and whether the heartbeat is on (01,
 // "Broadcasts and cell answers"). This crate may not know sessions, queries, or the buffer that the frames go into.
 #![tactic(auto)]
+
 ghost use Rattle.std.specs.Prelude.{◌≡◌};
 ghost use Rattle.cells.specs.InnerBounds.{BoundedCells};
 ghost use Rattle.broadcasts.specs.Layouts.{status_byte, ps_of, cvs_of, cts_of, fws_of, ec_of, broadcasts_of};
@@ -34,6 +35,7 @@ fn status_byte(heartbeat: bool, one: u8) -> u8
     }
 }
 
+#[tactic(auto, unfolding(crate::specs::Layouts::ps_of))]
 fn ps(own: u8, heartbeat: bool, readings: Readings, cells: Cells) -> Frame
     ensures { result ≡ ps_of own heartbeat readings cells }
 {
@@ -54,6 +56,7 @@ fn ps(own: u8, heartbeat: bool, readings: Readings, cells: Cells) -> Frame
     Frame::new(table::row_at(table::PS), 0, own, bytes)
 }
 
+#[tactic(auto, unfolding(crate::specs::Layouts::cvs_of))]
 fn cvs(own: u8, cells: Cells) -> Frame
     requires { BoundedCells cells }
     ensures { result ≡ cvs_of own cells }
@@ -75,6 +78,7 @@ fn cvs(own: u8, cells: Cells) -> Frame
     Frame::new(table::row_at(table::CVS), 0, own, bytes)
 }
 
+#[tactic(auto, unfolding(crate::specs::Layouts::cts_of))]
 fn cts(own: u8, cells: Cells) -> Frame
     requires { BoundedCells cells }
     ensures { result ≡ cts_of own cells }
@@ -93,6 +97,7 @@ fn cts(own: u8, cells: Cells) -> Frame
     Frame::new(table::row_at(table::CTS), 0, own, bytes)
 }
 
+#[tactic(auto, unfolding(crate::specs::Layouts::fws_of))]
 fn fws(own: u8, readings: Readings) -> Frame
     ensures { result ≡ fws_of own readings }
 {
@@ -111,6 +116,7 @@ fn fws(own: u8, readings: Readings) -> Frame
     Frame::new(table::row_at(table::FWS), 0, own, bytes)
 }
 
+#[tactic(auto, unfolding(crate::specs::Layouts::ec_of))]
 fn ec(own: u8, versions: Versions) -> Frame
     ensures { result ≡ ec_of own versions }
 {
