@@ -2,6 +2,7 @@
 // stops of Charging in their order, the phase, the EST bytes fixed at Stopping's first tick, and the ends of Stopping
 // and Error. This crate may not know addresses, frames or how counts go on.
 #![tactic(auto)]
+
 ghost use Rattle.std.specs.Prelude.{◌≡◌, cond, ◌≤◌};
 ghost use Rattle.session_by_tick.specs.Turns.{cell_full, pack_full, current_above, is_other, est_first, est_second, stop_of, est_of, waiting_of, phase_turn, stops_of, charging_of, stopping_of, error_of, turn_of};
 
@@ -25,6 +26,7 @@ pub enum Turn {
 }
 
 // The highest cell is at or above the maximum.
+#[tactic(auto, unfolding(crate::specs::Turns::cell_full))]
 fn cell_full(x: Settings, c: Cells) -> bool
     ensures { result ≡ cell_full x c }
 {
@@ -32,6 +34,7 @@ fn cell_full(x: Settings, c: Cells) -> bool
 }
 
 // The pack voltage is at or above the maximum.
+#[tactic(auto, unfolding(crate::specs::Turns::pack_full))]
 fn pack_full(x: Settings, r: Readings) -> bool
     ensures { result ≡ pack_full x r }
 {
@@ -39,12 +42,14 @@ fn pack_full(x: Settings, r: Readings) -> bool
 }
 
 // The current is above the maximum.
+#[tactic(auto, unfolding(crate::specs::Turns::current_above))]
 fn current_above(x: Settings, r: Readings) -> bool
     ensures { result ≡ current_above x r }
 {
     r.current_above(x.limits.current)
 }
 
+#[tactic(auto, unfolding(crate::specs::Turns::is_other))]
 fn is_other(cause: Cause) -> bool
     ensures { result ≡ is_other cause }
 {
@@ -63,6 +68,7 @@ fn bit(on: bool, place: u8) -> u8
     if on { place } else { 0 }
 }
 
+#[tactic(auto, unfolding(crate::specs::Turns::est_first))]
 fn est_first(x: Settings, r: Readings, c: Cells, cause: Cause) -> u8
     ensures { result ≡ est_first x r c cause }
 {
@@ -73,12 +79,14 @@ fn est_first(x: Settings, r: Readings, c: Cells, cause: Cause) -> u8
     soc + pack + cell + other
 }
 
+#[tactic(auto, unfolding(crate::specs::Turns::est_second))]
 fn est_second(x: Settings, r: Readings) -> u8
     ensures { result ≡ est_second x r }
 {
     bit(current_above(x, r), 0x01)
 }
 
+#[tactic(auto, unfolding(crate::specs::Turns::est_of))]
 fn fixed(x: Settings, r: Readings, c: Cells, cause: Cause) -> Est
     ensures { result ≡ est_of x r c cause }
 {
@@ -88,6 +96,7 @@ fn fixed(x: Settings, r: Readings, c: Cells, cause: Cause) -> Est
 }
 
 // Stopping begins on this tick, which is its first.
+#[tactic(auto, unfolding(crate::specs::Turns::stop_of))]
 fn stop(x: Settings, r: Readings, c: Cells, cause: Cause) -> Turn
     ensures { result ≡ stop_of x r c cause }
 {
@@ -99,6 +108,7 @@ fn stop(x: Settings, r: Readings, c: Cells, cause: Cause) -> Turn
 }
 
 // Offered to Ready.
+#[tactic(auto, unfolding(crate::specs::Turns::waiting_of))]
 fn waiting(r: Readings, silence: u8, state: State) -> Turn
     ensures { result ≡ waiting_of r silence state }
 {
@@ -111,6 +121,7 @@ fn waiting(r: Readings, silence: u8, state: State) -> Turn
     }
 }
 
+#[tactic(auto, unfolding(crate::specs::Turns::phase_turn, crate::specs::Turns::phase_on))]
 fn phase_turn(x: Settings, r: Readings, c: Cells, p: Phase) -> Turn
     ensures { result ≡ phase_turn x r c p }
 {
@@ -122,6 +133,7 @@ fn phase_turn(x: Settings, r: Readings, c: Cells, p: Phase) -> Turn
 }
 
 // The stops of Charging, in their order.
+#[tactic(auto, unfolding(crate::specs::Turns::stops_of))]
 fn stops(x: Settings, r: Readings, c: Cells, p: Phase) -> Turn
     ensures { result ≡ stops_of x r c p }
 {
@@ -134,6 +146,7 @@ fn stops(x: Settings, r: Readings, c: Cells, p: Phase) -> Turn
     }
 }
 
+#[tactic(auto, unfolding(crate::specs::Turns::charging_of))]
 fn charging(x: Settings, r: Readings, c: Cells, silence: u8, p: Phase) -> Turn
     ensures { result ≡ charging_of x r c silence p }
 {
@@ -146,6 +159,7 @@ fn charging(x: Settings, r: Readings, c: Cells, silence: u8, p: Phase) -> Turn
     }
 }
 
+#[tactic(auto, unfolding(crate::specs::Turns::stopping_of, crate::specs::Turns::est_then))]
 fn stopping(x: Settings, r: Readings, c: Cells, count: u16, acknowledged: bool, est: Est) -> Turn
     ensures { result ≡ stopping_of x r c count acknowledged est }
 {
@@ -168,6 +182,7 @@ fn stopping(x: Settings, r: Readings, c: Cells, count: u16, acknowledged: bool, 
     }
 }
 
+#[tactic(auto, unfolding(crate::specs::Turns::error_of))]
 fn error(count: u16) -> Turn
     ensures { result ≡ error_of count }
 {
@@ -179,6 +194,7 @@ fn error(count: u16) -> Turn
 }
 
 // What a tick makes of a state.
+#[tactic(auto, unfolding(crate::specs::Turns::turn_of))]
 pub fn turn_of(x: Settings, r: Readings, c: Cells, state: State, count: u16, silence: u8) -> Turn
     ensures { result ≡ turn_of x r c state count silence }
 {

@@ -27,6 +27,7 @@ fn top(w: u16) -> u8
 }
 
 // EIM: maximum pack voltage, AA or 00.
+#[tactic(auto, unfolding(crate::specs::Layouts::eim_of))]
 pub fn eim(x: Settings, station: u8, on: bool) -> Frame
     ensures { result ≡ eim_of x station on }
 {
@@ -41,6 +42,7 @@ pub fn eim(x: Settings, station: u8, on: bool) -> Frame
 }
 
 // EVM: 45 50 53, 00 or AA, capacity, pack voltage.
+#[tactic(auto, unfolding(crate::specs::Layouts::evm_of))]
 pub fn evm(x: Settings, station: u8, r: Readings, verified: bool) -> Frame
     ensures { result ≡ evm_of x station r verified }
 {
@@ -65,6 +67,7 @@ pub fn evm(x: Settings, station: u8, r: Readings, verified: bool) -> Frame
 }
 
 // ECP: settings 2, 3, 4, 5.
+#[tactic(auto, unfolding(crate::specs::Layouts::ecp_of))]
 pub fn ecp(x: Settings, station: u8) -> Frame
     ensures { result ≡ ecp_of x station }
 {
@@ -90,6 +93,7 @@ pub fn ecp(x: Settings, station: u8) -> Frame
 }
 
 // ERM: AA or 00.
+#[tactic(auto, unfolding(crate::specs::Layouts::erm_of))]
 pub fn erm(x: Settings, station: u8, accepted: bool) -> Frame
     ensures { result ≡ erm_of x station accepted }
 {
@@ -106,6 +110,7 @@ pub fn erm(x: Settings, station: u8, accepted: bool) -> Frame
 const HOLD_CELL: HundredthVolts = HundredthVolts(355);
 
 // The voltage of Hold: so much a cell in series, up to the maximum pack voltage.
+#[tactic(auto, unfolding(crate::specs::Layouts::hold_voltage))]
 fn hold_voltage(x: Settings, c: Cells) -> TenthVolts
     ensures { result ≡ hold_voltage x c }
 {
@@ -116,6 +121,7 @@ fn hold_voltage(x: Settings, c: Cells) -> TenthVolts
 const NO_CURRENT: RawAmps = RawAmps(4000);
 
 // ECR: voltage, raw current, mode.
+#[tactic(auto, unfolding(crate::specs::Layouts::ecr_frame))]
 fn ecr_frame(x: Settings, station: u8, volts: TenthVolts, raw: RawAmps, mode: u8) -> Frame
     ensures { result ≡ ecr_frame x station volts.0 raw.0 mode }
 {
@@ -138,6 +144,7 @@ fn ecr_frame(x: Settings, station: u8, volts: TenthVolts, raw: RawAmps, mode: u8
     )
 }
 
+#[tactic(auto, unfolding(crate::specs::Layouts::ecr_of))]
 pub fn ecr(x: Settings, station: u8, c: Cells, p: Phase) -> Frame
     ensures { result ≡ ecr_of x station c p }
 {
@@ -163,6 +170,7 @@ pub fn ecr(x: Settings, station: u8, c: Cells, p: Phase) -> Frame
 }
 
 // ECS: pack voltage, raw current, highest cell voltage, SOC.
+#[tactic(auto, unfolding(crate::specs::Layouts::ecs_of))]
 pub fn ecs(x: Settings, station: u8, r: Readings, c: Cells) -> Frame
     ensures { result ≡ ecs_of x station r c }
 {
@@ -188,6 +196,7 @@ pub fn ecs(x: Settings, station: u8, r: Readings, c: Cells) -> Frame
 }
 
 // ESM: highest voltage index, highest temperature and index, lowest and index, 01.
+#[tactic(auto, unfolding(crate::specs::Layouts::esm_of))]
 pub fn esm(x: Settings, station: u8, c: Cells) -> Frame
     ensures { result ≡ esm_of x station c }
 {
@@ -205,6 +214,7 @@ pub fn esm(x: Settings, station: u8, c: Cells) -> Frame
 }
 
 // EST: its two fixed bytes, then AA if acknowledged, else 00.
+#[tactic(auto, unfolding(crate::specs::Layouts::est_frame))]
 pub fn est(x: Settings, station: u8, first: u8, second: u8, acknowledged: bool) -> Frame
     ensures { result ≡ est_frame x station first second acknowledged }
 {
@@ -218,6 +228,7 @@ pub fn est(x: Settings, station: u8, first: u8, second: u8, acknowledged: bool) 
 }
 
 // EDM: SOC, lowest and highest cell voltage, lowest and highest temperature.
+#[tactic(auto, unfolding(crate::specs::Layouts::edm_of))]
 pub fn edm(x: Settings, station: u8, r: Readings, c: Cells) -> Frame
     ensures { result ≡ edm_of x station r c }
 {
@@ -244,6 +255,7 @@ pub fn edm(x: Settings, station: u8, r: Readings, c: Cells) -> Frame
 }
 
 // EEM: 10 00 00.
+#[tactic(auto, unfolding(crate::specs::Layouts::eem_of))]
 pub fn eem(x: Settings, station: u8) -> Frame
     ensures { result ≡ eem_of x station }
 {
