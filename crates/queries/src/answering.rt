@@ -41,6 +41,7 @@ fn row_of(kind: Kind, group: u8) -> Row
     }
 }
 
+#[tactic(auto, unfolding(crate::specs::Answering::group_frame, crate::specs::Answering::group_bytes))]
 fn group_frame(q: Query, own: u8, v: &[u16], t: &[i16]) -> Frame
     requires { q.group * per_group q.kind < most_cells }
     ensures { result ≡ group_frame own v.now t.now q }

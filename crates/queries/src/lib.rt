@@ -2,6 +2,7 @@
 // (01, "Broadcasts and cell answers", numbers 12 and 13). Any value of the types is accepted, also one that no run
 // reaches. This crate may not know sessions, broadcasts, or the buffer that a frame goes into.
 #![tactic(auto)]
+
 use frames::Frame;
 
 pub mod answering;

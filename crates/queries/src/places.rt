@@ -31,6 +31,7 @@ fn at_most(n: u8, most: u8) -> u8
 }
 
 // The first `count` of four queries.
+#[tactic(auto, unfolding(crate::specs::Waiting::queries_of))]
 fn first_of(count: u8, a: Query, b: Query, c: Query, d: Query) -> Queries
     ensures { result ≡ queries_of (take count (a ∷ b ∷ c ∷ d ∷ [])) }
 {
