@@ -10,6 +10,7 @@ use session_states::states::State;
 use settings::Stations;
 
 // 3: no identifier or length of CAN.
+#[tactic(auto, unfolding(crate::specs::Frame::not_can))]
 fn not_can(id: u32, bytes: &[u8]) -> bool
     ensures { result ≡ not_can id bytes.now }
 {
@@ -17,6 +18,7 @@ fn not_can(id: u32, bytes: &[u8]) -> bool
 }
 
 // 4: reserved or data page set.
+#[tactic(auto, unfolding(crate::specs::Frame::flags_set))]
 fn flags_set(p: Identifier) -> bool
     ensures { result ≡ flags_set p }
 {
@@ -24,6 +26,7 @@ fn flags_set(p: Identifier) -> bool
 }
 
 // 5: a broadcast, or for another target.
+#[tactic(auto, unfolding(crate::specs::Frame::not_for_us))]
 fn not_for_us(own: u8, p: Identifier) -> bool
     ensures { result ≡ not_for_us own p }
 {
@@ -31,6 +34,7 @@ fn not_for_us(own: u8, p: Identifier) -> bool
 }
 
 // 6: a source that no other node may have.
+#[tactic(auto, unfolding(crate::specs::Frame::bad_source))]
 fn bad_source(own: u8, p: Identifier) -> bool
     ensures { result ≡ bad_source own p }
 {
@@ -38,6 +42,7 @@ fn bad_source(own: u8, p: Identifier) -> bool
 }
 
 // 8: shorter than its least length.
+#[tactic(auto, unfolding(crate::specs::Frame::long_enough))]
 fn long_enough(bytes: &[u8], known: Recognized) -> Recognized
     ensures { result ≡ long_enough bytes.now known }
 {
@@ -55,6 +60,7 @@ fn long_enough(bytes: &[u8], known: Recognized) -> Recognized
 }
 
 // 3 to 8, in numeric order: the message in a frame, or the number of the first check that refuses it.
+#[tactic(auto, unfolding(crate::specs::Frame::frame_number, crate::specs::Frame::message_in))]
 pub fn message_in(own: u8, id: u32, bytes: &[u8]) -> Recognized
     ensures number { recognized_number result ≡ frame_number own id bytes.now }
     ensures answer { result ≡ message_in own id bytes.now }
@@ -76,6 +82,7 @@ pub fn message_in(own: u8, id: u32, bytes: &[u8]) -> Recognized
 }
 
 // A station of the list.
+#[tactic(auto, unfolding(crate::specs::Frame::listed))]
 fn is_listed(source: u8, s: Stations) -> bool
     ensures { result ≡ listed source s }
 {

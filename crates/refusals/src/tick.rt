@@ -12,6 +12,7 @@ const FRAMES: usize = 9;
 // The room of so many.
 const ROOM: usize = FRAMES * Frame::RECORD;
 
+#[tactic(auto, unfolding(crate::specs::Tick::tick_number))]
 pub fn tick_number(r: Readings, v: &[u16], t: &[i16], room: usize) -> u8
     ensures { result ≡ tick_number r v.now t.now room }
 {

@@ -10,6 +10,7 @@ use session_by_tick::Turn;
 use session_states::states::State;
 use session_states::{counts, limits};
 
+#[tactic(auto, unfolding(crate::specs::Tick::turned_by))]
 pub fn turned(s: Session, t: Turn) -> Session
     ensures { result ≡ turned_by s t }
 {
@@ -33,6 +34,7 @@ fn silence_next(n: u8) -> u8
 }
 
 // A tick of Offered to Charging: silence grows with the count.
+#[tactic(auto, unfolding(crate::specs::Tick::waited_of))]
 fn waited(s: Session, count: u16, state: State) -> Session
     ensures { result ≡ waited_of s count state }
 {
@@ -42,6 +44,7 @@ fn waited(s: Session, count: u16, state: State) -> Session
 }
 
 // A tick of Stopping or Error.
+#[tactic(auto, unfolding(crate::specs::Tick::closing_of))]
 fn closing(s: Session, state: State) -> Session
     ensures { result ≡ closing_of s state }
 {
@@ -49,6 +52,7 @@ fn closing(s: Session, state: State) -> Session
     counted.with_state(state)
 }
 
+#[tactic(auto, unfolding(crate::specs::Tick::advance_of, crate::specs::Tick::advance_in))]
 pub fn advance(s: Session) -> Session
     ensures { result ≡ advance_of s }
 {

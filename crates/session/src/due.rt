@@ -65,18 +65,21 @@ fn three(a: Frame, b: Frame, c: Frame) -> ChargeFrames
     }
 }
 
+#[tactic(auto, unfolding(crate::specs::Frames::is_fifth))]
 fn is_fifth(count: u16) -> bool
     ensures { result ≡ is_fifth count }
 {
     count % 5 == 0
 }
 
+#[tactic(auto, unfolding(crate::specs::Frames::each5))]
 fn one_each_5(count: u16, a: Frame) -> ChargeFrames
     ensures { frame_list result ≡ each5 count (a ∷ []) }
 {
     if is_fifth(count) { one(a) } else { none() }
 }
 
+#[tactic(auto, unfolding(crate::specs::Frames::parameters_frames))]
 fn parameters(x: Settings, r: Readings, station: u8, count: u16) -> ChargeFrames
     ensures { frame_list result ≡ parameters_frames x r station count }
 {
@@ -89,6 +92,7 @@ fn parameters(x: Settings, r: Readings, station: u8, count: u16) -> ChargeFrames
     }
 }
 
+#[tactic(auto, unfolding(crate::specs::Frames::charging_frames, crate::specs::Frames::each5))]
 fn charging(x: Settings, r: Readings, c: Cells, station: u8, count: u16, p: Phase) -> ChargeFrames
     ensures { frame_list result ≡ charging_frames x r c station count p }
 {
@@ -102,6 +106,7 @@ fn charging(x: Settings, r: Readings, c: Cells, station: u8, count: u16, p: Phas
     }
 }
 
+#[tactic(auto, unfolding(crate::specs::Frames::est_bytes))]
 fn est_frame(x: Settings, station: u8, acknowledged: bool, est: Est) -> Frame
     ensures { result ≡ est_bytes x station acknowledged est }
 {
@@ -111,6 +116,7 @@ fn est_frame(x: Settings, station: u8, acknowledged: bool, est: Est) -> Frame
     }
 }
 
+#[tactic(auto, unfolding(crate::specs::Frames::stopping_frames, crate::specs::Frames::each5))]
 fn stopping(
     x: Settings,
     r: Readings,
@@ -131,6 +137,7 @@ fn stopping(
 }
 
 // The frames of a state at its count.
+#[tactic(auto, unfolding(crate::specs::Frames::frames_in))]
 fn in_state(
     x: Settings,
     r: Readings,
@@ -160,6 +167,7 @@ fn in_state(
 
 // The frames of a tick: a farewell goes to the station that the session was with, and else those of the resulting
 // state.
+#[tactic(auto, unfolding(crate::specs::Frames::frames_of))]
 pub fn sent(x: Settings, r: Readings, c: Cells, station: u8, t: Turn, s: Session) -> ChargeFrames
     ensures { frame_list result ≡ frames_of x r c station t s }
 {

@@ -2,6 +2,7 @@
 // station (01, "Session by message", "Session by tick"). A library on values: it may not know settings bytes, addresses
 // of others, queries, broadcasts or buffers.
 #![tactic(auto)]
+
 ghost use Rattle.std.specs.Prelude.{◌≡◌};
 ghost use Rattle.session.specs.Session.{idle_session, with_station, with_silence, with_count, with_state, begun, opened};
 ghost use Rattle.session.specs.Message.{message_of};
@@ -119,6 +120,7 @@ impl Session {
 
 impl Session {
     // A charge message of the session's station; in Idle, of a listed station.
+    #[tactic(auto, unfolding(crate::specs::Message::message_of))]
     pub fn message(self, x: Settings, source: u8, m: ChargeMessage) -> Taken
         ensures { result ≡ message_of x source self m }
     {
@@ -128,6 +130,7 @@ impl Session {
     }
 
     // An accepted tick: state changes first, then the frames of the resulting state, then counts.
+    #[tactic(auto, unfolding(crate::specs::Tick::tick_of, crate::specs::Tick::sent_of, crate::specs::Tick::turn_in))]
     pub fn tick(self, x: Settings, r: Readings, c: Cells) -> Ticked
         ensures next { result.session ≡ tick_of x r c self }
         ensures sent { frame_list result.frames ≡ sent_of x r c self }

@@ -6,6 +6,7 @@ use crate::{Session, Taken};
 use session_by_message::Outcome;
 
 // The session after an outcome.
+#[tactic(auto, unfolding(crate::specs::Message::session_after))]
 fn after(s: Session, source: u8, o: Outcome) -> Session
     ensures { result ≡ session_after source s o }
 {
@@ -23,6 +24,7 @@ fn after(s: Session, source: u8, o: Outcome) -> Session
     }
 }
 
+#[tactic(auto, unfolding(crate::specs::Message::applied_of))]
 pub fn applied(s: Session, source: u8, o: Outcome) -> Taken
     ensures { result ≡ applied_of source s o }
 {
