@@ -3,5 +3,6 @@
 // 14 to 16. What follows where all are passed stands above. This crate may not know controllers, what moves a session,
 // or frames sent.
 #![tactic(auto)]
+
 pub mod frame;
 pub mod tick;
