@@ -5,70 +5,71 @@ ghost use Rattle.replay_print.specs.Answers.{unreadableLine, noControllerLine, w
 
 use crate::out::Out;
 use crate::{Buffer, numerals, out};
+use std::io::Print;
 
 // A word, a number and the end of the line.
-fn numbered(o: &mut Out, at: usize, s: &[u8], n: u64) -> usize
+fn numbered<R: Print>(rt: &R, o: &mut Out, at: usize, s: &[u8], n: u64) -> usize
     ensures { Prints o.old at o.new result (numberedLine s.now n) }
 {
-    let a = out::text(o, at, s);
-    let b = numerals::decimal(o, a, n, 1);
-    out::put(o, b, b'\n')
+    let a = out::text(rt, o, at, s);
+    let b = numerals::decimal(rt, o, a, n, 1);
+    out::put(rt, o, b, b'\n')
 }
 
 // The number of a settings record.
-pub fn settings(o: &mut Out, at: usize, number: u8) -> usize
+pub fn settings<R: Print>(rt: &R, o: &mut Out, at: usize, number: u8) -> usize
     ensures { Prints o.old at o.new result (settingsLine number) }
 {
-    numbered(o, at, b"settings ", number as u64)
+    numbered(rt, o, at, b"settings ", number as u64)
 }
 
 // The number of a received frame.
-pub fn frame(o: &mut Out, at: usize, number: u8) -> usize
+pub fn frame<R: Print>(rt: &R, o: &mut Out, at: usize, number: u8) -> usize
     ensures { Prints o.old at o.new result (frameLine number) }
 {
-    numbered(o, at, b"frame ", number as u64)
+    numbered(rt, o, at, b"frame ", number as u64)
 }
 
 // The number of a tick that is refused.
-pub fn tick(o: &mut Out, at: usize, number: u8) -> usize
+pub fn tick<R: Print>(rt: &R, o: &mut Out, at: usize, number: u8) -> usize
     ensures { Prints o.old at o.new result (tickLine number) }
 {
-    numbered(o, at, b"tick ", number as u64)
+    numbered(rt, o, at, b"tick ", number as u64)
 }
 
 // The bytes written: the first n of the buffer, or `-` for none.
-fn written(o: &mut Out, at: usize, n: usize, buf: &Buffer) -> usize
+fn written<R: Print>(rt: &R, o: &mut Out, at: usize, n: usize, buf: &Buffer) -> usize
     ensures { Prints o.old at o.new result (writtenText n buf.now) }
 {
     if n == 0 {
-        return out::put(o, at, b'-');
+        return out::put(rt, o, at, b'-');
     }
-    numerals::bytes(o, at, buf, 0, n)
+    numerals::bytes(rt, o, at, buf, 0, n)
 }
 
 // A write's number, how many bytes it wrote, and these.
-pub fn write(o: &mut Out, at: usize, number: u8, n: usize, buf: &Buffer) -> usize
+pub fn write<R: Print>(rt: &R, o: &mut Out, at: usize, number: u8, n: usize, buf: &Buffer) -> usize
     ensures { Prints o.old at o.new result (writeLine number n buf.now) }
 {
-    let mut a = out::text(o, at, b"write ");
-    a = numerals::decimal(o, a, number as u64, 1);
-    a = out::put(o, a, b' ');
-    a = numerals::decimal(o, a, n as u64, 1);
-    a = out::put(o, a, b' ');
-    a = written(o, a, n, buf);
-    out::put(o, a, b'\n')
+    let mut a = out::text(rt, o, at, b"write ");
+    a = numerals::decimal(rt, o, a, number as u64, 1);
+    a = out::put(rt, o, a, b' ');
+    a = numerals::decimal(rt, o, a, n as u64, 1);
+    a = out::put(rt, o, a, b' ');
+    a = written(rt, o, a, n, buf);
+    out::put(rt, o, a, b'\n')
 }
 
 // A call before there is a controller.
-pub fn no_controller(o: &mut Out, at: usize) -> usize
+pub fn no_controller<R: Print>(rt: &R, o: &mut Out, at: usize) -> usize
     ensures { Prints o.old at o.new result noControllerLine }
 {
-    out::text(o, at, b"no controller\n")
+    out::text(rt, o, at, b"no controller\n")
 }
 
 // A line that cannot be read, by its number.
-pub fn unreadable(o: &mut Out, at: usize, number: u64) -> usize
+pub fn unreadable<R: Print>(rt: &R, o: &mut Out, at: usize, number: u64) -> usize
     ensures { Prints o.old at o.new result (unreadableLine number) }
 {
-    numbered(o, at, b"unreadable line ", number)
+    numbered(rt, o, at, b"unreadable line ", number)
 }

@@ -2,6 +2,7 @@
 // of frames as candump writes them, and of a session's standing. Each function takes the place of the buffer that is
 // free and returns the next. This crate may not know any controller, why a frame was sent, nor any rule of the paper.
 #![tactic(auto)]
+
 pub mod answers;
 pub mod frames;
 pub mod numerals;

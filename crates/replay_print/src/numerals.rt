@@ -5,28 +5,29 @@ ghost use Rattle.replay_print.specs.Text.{padded_of, hex_digit, hex_of, part_of,
 
 use crate::out;
 use crate::out::Out;
+use std::io::Print;
 
 // The zeros that stand before k digits, up to a width.
-fn zeros(o: &mut Out, at: usize, width: usize, k: usize) -> usize
+fn zeros<R: Print>(rt: &R, o: &mut Out, at: usize, width: usize, k: usize) -> usize
     ensures { Prints o.old at o.new result (replicate (width - k) 48) }
 {
     let mut a = at;
     let mut i = k;
     while i < width {
-        a = out::put(o, a, b'0');
+        a = out::put(rt, o, a, b'0');
         i += 1;
     }
     a
 }
 
 // A number in decimal, with zeros before it up to a width.
-pub fn decimal(o: &mut Out, at: usize, n: u64, width: usize) -> usize
+pub fn decimal<R: Print>(rt: &R, o: &mut Out, at: usize, n: u64, width: usize) -> usize
     ensures { Prints o.old at o.new result (padded_of width n) }
 {
     let mut digits = [0u8; 20];
     let k = io::decimal(n, &mut digits);
-    let a = zeros(o, at, width, k);
-    out::text(o, a, &digits[..k])
+    let a = zeros(rt, o, at, width, k);
+    out::text(rt, o, a, &digits[..k])
 }
 
 // A hex digit, in capitals.
@@ -38,15 +39,16 @@ fn digit(n: u8) -> u8
 }
 
 // A byte as two hex digits.
-pub fn byte(o: &mut Out, at: usize, b: u8) -> usize
+#[tactic(auto, unfolding(crate::specs::Text::hex_of))]
+pub fn byte<R: Print>(rt: &R, o: &mut Out, at: usize, b: u8) -> usize
     ensures { Prints o.old at o.new result (hex_of b) }
 {
-    let a = out::put(o, at, digit(b / 16));
-    out::put(o, a, digit(b % 16))
+    let a = out::put(rt, o, at, digit(b / 16));
+    out::put(rt, o, a, digit(b % 16))
 }
 
 // The bytes of a slice from a place up to another, in hex; those past its end are left out.
-pub fn bytes(o: &mut Out, at: usize, s: &[u8], from: usize, to: usize) -> usize
+pub fn bytes<R: Print>(rt: &R, o: &mut Out, at: usize, s: &[u8], from: usize, to: usize) -> usize
     ensures { Prints o.old at o.new result (hexes_of (part_of from to s.now)) }
 {
     let n = s.len();
@@ -56,7 +58,7 @@ pub fn bytes(o: &mut Out, at: usize, s: &[u8], from: usize, to: usize) -> usize
         if to <= i {
             break;
         }
-        a = byte(o, a, s[i]);
+        a = byte(rt, o, a, s[i]);
         i += 1;
     }
     a

@@ -7,6 +7,7 @@ ghost use Rattle.replay_print.specs.Standings.{same_standing, station_text, stan
 use crate::out::Out;
 use crate::{numerals, out};
 use session_states::states::State;
+use std::io::Print;
 
 // A session's state and station, as they are printed. Idle is 0, and has no station.
 #[derive(Clone, Copy)]
@@ -36,23 +37,24 @@ fn code(state: State) -> u8
     }
 }
 
-fn name(o: &mut Out, at: usize, code: u8) -> usize
+fn name<R: Print>(rt: &R, o: &mut Out, at: usize, code: u8) -> usize
     ensures { Prints o.old at o.new result (state_name code) }
 {
     match code {
-        0 => out::text(o, at, b"Idle"),
-        1 => out::text(o, at, b"Offered"),
-        2 => out::text(o, at, b"Unverified"),
-        3 => out::text(o, at, b"Parameters"),
-        4 => out::text(o, at, b"Ready"),
-        5 => out::text(o, at, b"Charging"),
-        6 => out::text(o, at, b"Stopping"),
-        _ => out::text(o, at, b"Error"),
+        0 => out::text(rt, o, at, b"Idle"),
+        1 => out::text(rt, o, at, b"Offered"),
+        2 => out::text(rt, o, at, b"Unverified"),
+        3 => out::text(rt, o, at, b"Parameters"),
+        4 => out::text(rt, o, at, b"Ready"),
+        5 => out::text(rt, o, at, b"Charging"),
+        6 => out::text(rt, o, at, b"Stopping"),
+        _ => out::text(rt, o, at, b"Error"),
     }
 }
 
 impl Standing {
     // As it is before there is a controller.
+    #[tactic(auto, unfolding(crate::specs::Standings::idle_standing))]
     pub fn idle() -> Standing
         ensures { result ≡ idle_standing }
     {
@@ -62,6 +64,7 @@ impl Standing {
         }
     }
 
+    #[tactic(auto, unfolding(crate::specs::Standings::standing_of))]
     pub fn of(state: State, station: u8) -> Standing
         ensures { result ≡ standing_of state station }
     {
@@ -71,6 +74,7 @@ impl Standing {
         }
     }
 
+    #[tactic(auto, unfolding(crate::specs::Standings::same_standing))]
     fn same(self, other: Standing) -> bool
         ensures { result ≡ same_standing self other }
     {
@@ -78,33 +82,35 @@ impl Standing {
     }
 
     // The station, unless the state is Idle.
-    fn station(self, o: &mut Out, at: usize) -> usize
+    #[tactic(auto, unfolding(crate::specs::Standings::station_text))]
+    fn station<R: Print>(self, rt: &R, o: &mut Out, at: usize) -> usize
         ensures { Prints o.old at o.new result (station_text self) }
     {
         if self.state == 0 {
             return at;
         }
-        let a = out::put(o, at, b' ');
-        numerals::byte(o, a, self.station)
+        let a = out::put(rt, o, at, b' ');
+        numerals::byte(rt, o, a, self.station)
     }
 
-    fn line(self, o: &mut Out, at: usize) -> usize
+    fn line<R: Print>(self, rt: &R, o: &mut Out, at: usize) -> usize
         ensures { Prints o.old at o.new result (standing_line self) }
     {
-        let mut a = out::text(o, at, b"state ");
-        a = name(o, a, self.state);
-        a = self.station(o, a);
-        out::put(o, a, b'\n')
+        let mut a = out::text(rt, o, at, b"state ");
+        a = name(rt, o, a, self.state);
+        a = self.station(rt, o, a);
+        out::put(rt, o, a, b'\n')
     }
 
     // The line of a standing, where it is not what it was before.
-    pub fn changed(self, o: &mut Out, at: usize, before: Standing) -> usize
+    #[tactic(auto, using(crate::proofs::Laws::prints_none), unfolding(crate::specs::Standings::changed_text))]
+    pub fn changed<R: Print>(self, rt: &R, o: &mut Out, at: usize, before: Standing) -> usize
         ensures { Prints o.old at o.new result (changed_text self before) }
     {
         if self.same(before) {
             at
         } else {
-            self.line(o, at)
+            self.line(rt, o, at)
         }
     }
 }

@@ -1,0 +1,13 @@
+use Rattle.replay_print.specs.Answers.{writeLine}
+use Rattle.replay_print.proofs.Laws.{prints_eq, prints_then}
+use Rattle.replay_print.proofs.Spelled.{padded_one}
+use Rattle.replay_print.proofs.answers.write.Goals as goal
+
+pub returns : goal.returns
+unfolding writeLine
+returns g c =
+    prints_then c.text-a.ensures
+    (prints_then (prints_eq c.decimal-a.ensures (padded_one _))
+    (prints_then c.put-a.ensures
+    (prints_then (prints_eq c.decimal-a-2.ensures (padded_one _))
+    (prints_then c.put-a-2.ensures (prints_then c.written-a.ensures c.put.ensures)))))

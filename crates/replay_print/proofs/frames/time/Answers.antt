@@ -1,0 +1,10 @@
+use Rattle.replay_print.specs.Frames.{time_text}
+use Rattle.replay_print.proofs.Laws.{prints_then}
+use Rattle.replay_print.proofs.frames.time.Goals as goal
+
+pub returns : goal.returns
+unfolding time_text
+returns g c =
+    prints_then c.put-a.ensures
+    (prints_then c.decimal-a.ensures
+    (prints_then c.put-a-2.ensures (prints_then c.decimal-a-2.ensures c.put.ensures)))
