@@ -2,6 +2,7 @@
 // frame where one is due (01, "Session by tick", "Broadcasts and cell answers"). This crate may not know controllers,
 // cell queries or refusals: its caller shows that the buffer has room and that the cells were accepted.
 #![tactic(auto)]
+
 ghost use Rattle.std.specs.Prelude.{cond, [], ◌∷◌, ◌++◌, ◌+◌, ◌*◌, ◌≤◌, length};
 ghost use Rattle.frames.specs.Frame.{record_size};
 ghost use Rattle.frames.specs.InnerSent.{Sent};
@@ -76,7 +77,7 @@ pub fn lay(
 ) -> usize
     requires { (9 * record_size ≤ length buf.old) × BoundedCells c }
     ensures { Sent 9 buf.old buf.new 0 result
-        (frame_list Charged
+        (frame_list charged
         ++ (broadcast_at beat.tick x.own x.versions r c ++ cond due (cell ∷ []) [])) }
 {
     let a = charge(charged, buf, 0);
