@@ -9,6 +9,7 @@ use messages::received::{Charge, Message, Query, Recognized};
 use queries::Kind;
 use refusals::frame;
 
+#[tactic(auto, unfolding(crate::specs::Frame::kind_of))]
 fn kind_of(q: Query) -> Kind
     ensures { result ≡ kind_of q }
 {
@@ -29,6 +30,7 @@ impl Controller {
     }
 
     // 10, then the session.
+    #[tactic(auto, unfolding(crate::specs::Frame::content_taken, crate::specs::Frame::session_moved))]
     fn content_taken(self, source: u8, content: Content) -> Answer
         ensures { result ≡ content_taken self source content }
     {
@@ -46,6 +48,7 @@ impl Controller {
     }
 
     // 9, then the content.
+    #[tactic(auto, unfolding(crate::specs::Frame::charge_to, crate::specs::Frame::may_charge))]
     fn charge_to(self, source: u8, k: Charge, bytes: &[u8]) -> Answer
         ensures { result ≡ charge_to self source k bytes.now }
     {
@@ -59,6 +62,7 @@ impl Controller {
     }
 
     // 12 and 13.
+    #[tactic(auto, unfolding(crate::specs::Frame::query_to, crate::specs::Frame::queries_moved))]
     fn query_to(self, source: u8, q: Query) -> Answer
         ensures { result ≡ query_to self source q }
     {
@@ -70,6 +74,7 @@ impl Controller {
         }
     }
 
+    #[tactic(auto, unfolding(crate::specs::Frame::message_to))]
     fn message_to(self, source: u8, bytes: &[u8], known: Recognized) -> Answer
         ensures { result ≡ message_to self source bytes.now known }
     {
@@ -83,6 +88,7 @@ impl Controller {
     }
 
     // ENTRY POINT. Any identifier, any data of any length, any controller.
+    #[tactic(auto, unfolding(crate::specs::Frame::frame_to))]
     pub fn frame(self, id: u32, bytes: &[u8]) -> Answer
         ensures { FrameIs self id bytes.now result }
     {

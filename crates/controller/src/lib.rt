@@ -2,6 +2,7 @@
 // It joins the session with the box of broadcasts and queries beside it, neither of which reads the other, and tests
 // all that it is handed (01, "Numbers returned"). It may not know anything new: every rule stands in a crate below.
 #![tactic(auto)]
+
 ghost use Rattle.std.specs.Prelude.{◌≡◌};
 ghost use Rattle.controller.specs.With.{with_session, with_beat, with_queries};
 

@@ -10,6 +10,7 @@ use session::Session;
 use settings::{Settings, SettingsRead, Written};
 
 // Idle, nothing waiting, next tick 0.
+#[tactic(auto, unfolding(crate::specs::Start::fresh_of))]
 fn fresh(x: Settings) -> Controller
     ensures { result ≡ fresh_of x }
 {

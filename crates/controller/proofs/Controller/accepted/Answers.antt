@@ -1,0 +1,34 @@
+-- Nothing refuses the tick, so that the cells are bounded and the buffer has room; its parts are the tick's.
+use Rattle.std.proofs.Common.{◌∙◌}
+use Rattle.frames.proofs.Laws.{sent_eq}
+use Rattle.cells.proofs.Bounds.{cells_bounded}
+use Rattle.refusals.proofs.Fine.{fine, fine_cells}
+use Rattle.controller.specs.Tick.{charge_frames, broadcast_frames, cell_frames, tick_frames, tick_next}
+use Rattle.controller.proofs.Ticks.{accepted_tick}
+use Rattle.controller.proofs.Controller.accepted.Goals as goal
+
+pub summarize-c-requires : goal.summarize-c-requires
+summarize-c-requires c = (fine _ _ _ _ c.requires).fits
+
+pub answer-q-requires : goal.answer-q-requires
+answer-q-requires c = (fine _ _ _ _ c.requires).fits
+
+pub lay-bytes-requires : goal.lay-bytes-requires
+lay-bytes-requires c =
+    let f = fine _ _ _ _ c.requires in
+    (f.room_enough, rw c.summarize-c.ensures (cells_bounded _ _ f.fits (fine_cells f)))
+
+pub returns : goal.returns
+unfolding charge_frames broadcast_frames cell_frames tick_frames tick_next
+returns c =
+    accepted_tick _ _ _ _ _ _ _ _ c.requires
+    (sent_eq c.lay-bytes.ensures (rw (c.tick-s.ensures.sent, c.answer-q.ensures.frames, c.summarize-c.ensures)))
+    (c.with_queries.ensures
+    ∙ rw (
+      c.with_beat-later.ensures,
+      c.next.ensures,
+      c.with_session-moved.ensures,
+      c.tick-s.ensures.next,
+      c.answer-q.ensures.later,
+      c.summarize-c.ensures,
+    ))
