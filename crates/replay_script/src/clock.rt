@@ -31,6 +31,7 @@ pub enum Due {
 }
 
 // (SECONDS.MICROS), 1 to 12 digits and six.
+#[tactic(auto, unfolding(crate::specs::Clocks::time_in, crate::specs::Clocks::is_time))]
 pub fn read_time(text: &Text, w: Word) -> Time
     ensures { result ≡ time_in text.now w }
 {

@@ -27,6 +27,7 @@ enum Received {
     Not,
 }
 
+#[tactic(auto, unfolding(crate::specs::Frames::identifier_of))]
 fn read_identifier(text: &Text, from: usize) -> Identifier
     ensures { result ≡ identifier_in text.now from }
 {
@@ -41,6 +42,7 @@ fn read_identifier(text: &Text, from: usize) -> Identifier
 }
 
 // The data from a place on, to the end of the line.
+#[tactic(auto, unfolding(crate::specs::Frames::data_of))]
 fn read_data(id: u32, text: &Text, from: usize, bytes: &mut Bytes) -> Received
     ensures answer { result ≡ data_in text.now id from }
     ensures later { bytes.new ≡ laid_first (bytes_in text.now from) bytes.old }
@@ -58,6 +60,7 @@ fn read_data(id: u32, text: &Text, from: usize, bytes: &mut Bytes) -> Received
 }
 
 // ID#DATA, the last word of its line.
+#[tactic(auto, unfolding(crate::specs::Frames::received_of, crate::specs::Frames::data_bytes))]
 fn read_frame(text: &Text, from: usize, bytes: &mut Bytes) -> Received
     ensures answer { result ≡ received_in text.now from }
     ensures later { bytes.new ≡ frame_bytes text.now from bytes.old }
@@ -69,6 +72,7 @@ fn read_frame(text: &Text, from: usize, bytes: &mut Bytes) -> Received
 }
 
 // ID#DATA from a place on.
+#[tactic(auto, unfolding(crate::specs::Frames::frame_of))]
 pub fn frame(text: &Text, from: usize, bytes: &mut Bytes) -> Asked
     ensures answer { result ≡ frame_in text.now from }
     ensures later { bytes.new ≡ frame_bytes text.now from bytes.old }
@@ -80,6 +84,7 @@ pub fn frame(text: &Text, from: usize, bytes: &mut Bytes) -> Asked
 }
 
 // ID#DATA, which came at a time.
+#[tactic(auto, unfolding(crate::specs::Frames::frame_at_of))]
 fn frame_at(time: u64, text: &Text, from: usize, bytes: &mut Bytes) -> Asked
     ensures answer { result ≡ frame_at_of time (received_in text.now from) }
     ensures later { bytes.new ≡ frame_bytes text.now from bytes.old }
@@ -91,6 +96,7 @@ fn frame_at(time: u64, text: &Text, from: usize, bytes: &mut Bytes) -> Asked
 }
 
 // (SECONDS.MICROS) IFACE ID#DATA from a place on.
+#[tactic(auto, unfolding(crate::specs::Frames::logged_of, crate::specs::Frames::timed_bytes))]
 pub fn logged(text: &Text, from: usize, bytes: &mut Bytes) -> Asked
     ensures answer { result ≡ logged_in text.now from }
     ensures later { bytes.new ≡ logged_bytes text.now from bytes.old }

@@ -57,6 +57,7 @@ impl Lent {
     }
 
     // What ticks are lent after a line: most lines set nothing of it.
+    #[tactic(auto, unfolding(crate::specs::Lent::lent_after))]
     pub fn after(self, asked: Asked) -> Lent
         ensures { result ≡ lent_after self asked }
     {

@@ -7,6 +7,7 @@
 // and which ticks are due by a log's clock. This crate may not know any controller, what a call comes to, nor any rule
 // of the paper.
 #![tactic(auto)]
+
 ghost use Rattle.std.specs.Prelude.{◌≡◌};
 ghost use Rattle.replay_script.specs.Lines.{kind_in, asks_of, bytes_of, volts_of, temps_of};
 ghost use Rattle.replay_script.specs.Lines.{is_longer, asked_in, bytes_after, volts_after, temps_after};
@@ -57,6 +58,7 @@ enum Kind {
 }
 
 // The kind of a line whose first word begins at a place; what no known word begins is a frame.
+#[tactic(auto, unfolding(crate::specs::Lines::kind_in))]
 fn kind_of(text: &Text, from: usize) -> Kind
     ensures { result ≡ kind_in text.now from }
 {
@@ -88,6 +90,7 @@ fn kind_of(text: &Text, from: usize) -> Kind
 }
 
 // What a line asks for whose first word begins at a place.
+#[tactic(auto, unfolding(crate::specs::Lines::asks_of, crate::specs::Lines::bytes_of, crate::specs::Lines::volts_of, crate::specs::Lines::temps_of))]
 fn read_words(
     text: &Text,
     from: usize,

@@ -8,6 +8,7 @@ use replay_text::hex::{Bytes, Hex};
 use replay_text::{Text, after, byte_at, hex, words};
 
 // A record of so many bytes, where no word begins or goes on from a place on.
+#[tactic(auto, unfolding(crate::specs::Records::closed_in))]
 fn closed(text: &Text, at: usize, n: usize) -> Asked
     ensures { result ≡ closed_in text.now at n }
 {
@@ -19,6 +20,7 @@ fn closed(text: &Text, at: usize, n: usize) -> Asked
 }
 
 // The bytes of a settings record, or `-` for none, as the one word from a place on.
+#[tactic(auto, unfolding(crate::specs::Records::record_at, crate::specs::Records::record_of))]
 pub fn record(text: &Text, past: usize, bytes: &mut Bytes) -> Asked
     ensures answer { result ≡ record_in text.now past }
     ensures later { bytes.new ≡ record_bytes text.now past bytes.old }
@@ -38,6 +40,7 @@ pub fn record(text: &Text, past: usize, bytes: &mut Bytes) -> Asked
 }
 
 // The settings in use, into a buffer of a length.
+#[tactic(auto, unfolding(crate::specs::Records::write_of))]
 pub fn write(text: &Text, past: usize) -> Asked
     ensures { result ≡ write_in text.now past }
 {

@@ -35,6 +35,7 @@ fn wide(x: u64) -> u16
 }
 
 // One tick, or so many.
+#[tactic(auto, unfolding(crate::specs::Ticks::ticks_in))]
 pub fn ticks(text: &Text, past: usize) -> Asked
     ensures { result ≡ ticks_in text.now past }
 {
@@ -50,6 +51,7 @@ pub fn ticks(text: &Text, past: usize) -> Asked
 }
 
 // The one number of a line as a buffer's length.
+#[tactic(auto, unfolding(crate::specs::Ticks::length_in))]
 pub fn read_length(text: &Text, past: usize) -> Length
     ensures { result ≡ length_in text.now past }
 {
@@ -62,6 +64,7 @@ pub fn read_length(text: &Text, past: usize) -> Length
 }
 
 // The length of a buffer.
+#[tactic(auto, unfolding(crate::specs::Ticks::buffer_of))]
 pub fn buffer(text: &Text, past: usize) -> Asked
     ensures { result ≡ buffer_in text.now past }
 {

@@ -1,0 +1,31 @@
+use Rattle.std.proofs.Common.{ℕ, List, ◌≡◌, ◌≤◌, sym, ◌∙◌, arith}
+use Prim.Native.Char.{code}
+use Rattle.replay_text.specs.Chars.{newline, byte_at, laid_first}
+use Rattle.replay_text.specs.Digits.{digit_of}
+use Rattle.replay_text.specs.Hex.{bytes_in}
+use Rattle.replay_text.proofs.Pairs.{no_bytes}
+use Rattle.replay_script.proofs.settings.record.Goals as goal
+
+-- where no digit begins, nothing is laid
+unread : (text : List ℕ) (from b : ℕ) (old : List ℕ) → byte_at text from ≡ b → 16 ≤ digit_of b
+    → old ≡ laid_first (bytes_in text from) old
+unfolding laid_first
+unread text from b old e h = rw (no_bytes text from (rw e h))
+
+newline_none : 16 ≤ digit_of newline
+unfolding digit_of
+newline_none = omega arith
+
+hyphen_none : 16 ≤ digit_of (code "-")
+unfolding digit_of
+hyphen_none = omega arith
+
+pub returns-then-b-eq10-clause-later : goal.returns-then-b-eq10-clause-later
+returns-then-b-eq10-clause-later c =
+    rw (← c.past_gaps-from.ensures)
+    (unread c.args.text.now _ newline _ (sym c.byte_at-b.ensures ∙ c.if-b-eq10.true) newline_none)
+
+pub returns-then-b-eq45-clause-later : goal.returns-then-b-eq45-clause-later
+returns-then-b-eq45-clause-later c =
+    rw (← c.past_gaps-from.ensures)
+    (unread c.args.text.now _ (code "-") _ (sym c.byte_at-b.ensures ∙ c.if-b-eq45.true) hyphen_none)
