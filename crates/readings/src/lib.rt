@@ -1,6 +1,7 @@
 // The pack's readings that a tick lends: their ranges (01, "Readings", number 15), whether charge is wanted, and how a
 // current is compared and sent. This crate may not know cells, frames or sessions.
 #![tactic(auto)]
+
 ghost use Rattle.std.specs.Prelude.{◌≡◌};
 ghost use Rattle.readings.specs.Readings.{readings_in_range, wanted_of, above_of, raw_of, bits_of, current_ok};
 

@@ -2,6 +2,7 @@
 // controller answers, sends and enters. This crate reads the input and hands its lines on: it may not know what a line
 // asks for, how an answer is printed, nor any rule of the paper.
 #![tactic(auto)]
+
 use libc::STDIN_FILENO;
 use replay_host::lines::Run;
 use replay_print::out::Out;

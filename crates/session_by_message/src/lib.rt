@@ -2,6 +2,7 @@
 // and message, a line each, read against the paper, and the yes rule of CMP. This crate may not know addresses,
 // silence, ticks or frames; that a frame has gone out it tells by the state's count.
 #![tactic(auto)]
+
 ghost use Rattle.std.specs.Prelude.{◌≡◌};
 ghost use Rattle.session_by_message.specs.Message.{outcome_number};
 

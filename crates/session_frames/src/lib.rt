@@ -1,6 +1,7 @@
 // The ten frames to the station, laid out byte by byte (01, "Session by tick", "Layouts"). Every frame has 8 data
 // bytes, zero after its fields. This crate may not know when a frame is due.
 #![tactic(auto)]
+
 ghost use Rattle.std.specs.Prelude.{◌≡◌};
 ghost use Rattle.buffers.specs.Words.{high};
 ghost use Rattle.session_frames.specs.Layouts.{mark_of, hold_voltage, eim_of, evm_of, ecp_of, erm_of, ecr_frame, ecr_of, ecs_of, esm_of, est_frame, edm_of, eem_of};

@@ -3,6 +3,7 @@
 // readings or frames, nor what moves a session from one state to the next: it is told whether a cell is at its maximum,
 // and says whether the charge goes on.
 #![tactic(auto)]
+
 pub mod counts;
 pub mod limits;
 pub mod phases;

@@ -3,6 +3,7 @@
 // apart by its sign, in one place, so that all that is said of it elsewhere is said of plain numbers. This crate may
 // not know messages, settings or states.
 #![tactic(auto)]
+
 ghost use Rattle.std.specs.Prelude.{◌≡◌, leb, ltb};
 ghost use Rattle.units.specs.Units.{lesser_of, in_series, lesser_amps, halved_amps, raw_amps};
 ghost use Rattle.units.specs.InnerSigned.{signed_of};
