@@ -69,7 +69,7 @@ def table(names):
     return turned | EXTRA
 
 
-# Names that the rule alone would not give: a fact is spelled as a type.
+# Names in .antt files that the rule alone would not give: a fact is spelled as a type.
 EXTRA = {"charged": "Charged"}
 
 
@@ -159,7 +159,7 @@ def main():
         if p.endswith(".antt"):
             new = turn_antt(read(p), turned, os.path.basename(p) in FUNCTION)
         elif p.endswith(".rt"):
-            new = turn_rt(read(p), turned)
+            new = turn_rt(read(p), {k: v for k, v in turned.items() if k not in EXTRA})
         elif p.endswith(".edit"):
             new = turn_words(read(p), turned)
         elif p.endswith(".md"):
