@@ -91,7 +91,8 @@ def turn_comment(text, turned):
 
 
 def turn_antt(text, turned, made):
-    turned = {k: v for k, v in turned.items() if k not in lent(text)}
+    theirs = lent(text)
+    turned = {k: v for k, v in turned.items() if k not in theirs}
     out = []
     for line in text.split("\n"):
         if line.lstrip().startswith("--") or " -- " in line:
