@@ -3,6 +3,7 @@ ghost use Rattle.std.specs.Prelude.{◌≡◌};
 ghost use Rattle.replay_calls.specs.Counts.{next_number, count_after};
 
 // The next number; the last of all stays.
+#[tactic(auto, unfolding(crate::specs::Counts::next_number))]
 pub fn next(n: u64) -> u64
     ensures { result ≡ next_number n }
 {
@@ -10,6 +11,7 @@ pub fn next(n: u64) -> u64
 }
 
 // The ticks accepted after one that was answered a number: only one that is accepted counts.
+#[tactic(auto, unfolding(crate::specs::Counts::count_after))]
 pub fn counted(number: u8, count: u64) -> u64
     ensures { result ≡ count_after number count }
 {
