@@ -12,6 +12,7 @@ use replay_print::standings::Standing;
 use replay_print::{Buffer, answers};
 use replay_text::hex::Bytes;
 use settings::Written;
+use std::io::Print;
 
 // The controller in use, once a settings record was accepted.
 #[derive(Clone, Copy)]
@@ -29,6 +30,7 @@ pub struct Kept {
 }
 
 // The standing of a controller's session.
+#[tactic(auto, unfolding(crate::specs::Host::standing_in))]
 fn standing(c: Controller) -> Standing
     ensures { result ≡ standing_in c }
 {
@@ -38,6 +40,7 @@ fn standing(c: Controller) -> Standing
 }
 
 impl Held {
+    #[tactic(auto, unfolding(crate::specs::Host::standing_held))]
     fn standing(self) -> Standing
         ensures { result ≡ standing_held self }
     {
@@ -49,6 +52,7 @@ impl Held {
 }
 
 impl Kept {
+    #[tactic(auto, unfolding(crate::specs::Host::start_kept))]
     pub fn start() -> Kept
         ensures { result ≡ start_kept }
     {
@@ -70,12 +74,20 @@ impl Kept {
 
     // The controller that a call gave, after so many accepted ticks. Its standing is printed last, where the call has
     // changed it.
-    pub fn with(self, c: Controller, accepted: u64, o: &mut Out, at: usize) -> Kept
+    #[tactic(auto, unfolding(crate::specs::Host::entered))]
+    pub fn with<R: Print>(
+        self,
+        rt: &R,
+        c: Controller,
+        accepted: u64,
+        o: &mut Out,
+        at: usize,
+    ) -> Kept
         ensures { Comes o.old at o.new result (entered self.held c accepted) }
     {
         let before = self.held;
         let now = standing(c);
-        let out = now.changed(o, at, before.standing());
+        let out = now.changed(rt, o, at, before.standing());
         Kept {
             held: Held::Of(c),
             accepted: accepted,
@@ -84,13 +96,15 @@ impl Kept {
     }
 
     // A line that cannot be read, by its number.
-    pub fn unreadable(self, number: u64, o: &mut Out) -> Kept
+    #[tactic(auto, unfolding(crate::specs::Host::unreadable_done))]
+    pub fn unreadable<R: Print>(self, rt: &R, number: u64, o: &mut Out) -> Kept
         ensures { Comes o.old self.out o.new result (unreadable_done number (keeps_of self)) }
     {
-        self.at(answers::unreadable(o, self.out, number))
+        self.at(answers::unreadable(rt, o, self.out, number))
     }
 
     // Whether there is no controller.
+    #[tactic(auto, unfolding(crate::specs::Host::is_none))]
     pub fn is_empty(self) -> bool
         ensures { result ≡ is_none self.held }
     {
@@ -102,69 +116,71 @@ impl Kept {
     }
 
     // That there is no controller, where there is none.
-    pub fn absent(self, o: &mut Out) -> Kept
+    pub fn absent<R: Print>(self, rt: &R, o: &mut Out) -> Kept
         ensures { Comes o.old self.out o.new result (absent_done (keeps_of self)) }
     {
         if self.is_empty() {
-            self.at(answers::no_controller(o, self.out))
+            self.at(answers::no_controller(rt, o, self.out))
         } else {
             self
         }
     }
 
     // A settings record of the first n bytes: a fresh controller, or the one in use stays.
-    pub fn settings(self, bytes: &Bytes, n: usize, o: &mut Out) -> Kept
+    pub fn settings<R: Print>(self, rt: &R, bytes: &Bytes, n: usize, o: &mut Out) -> Kept
         ensures { Comes o.old self.out o.new result
             (settings_done (take n bytes.now) (keeps_of self)) }
     {
         match calls::read(bytes, n) {
             Start::Made(c) => {
-                let a = answers::settings(o, self.out, 0);
-                self.with(c, 0, o, a)
+                let a = answers::settings(rt, o, self.out, 0);
+                self.with(rt, c, 0, o, a)
             }
-            Start::Refused(number) => self.at(answers::settings(o, self.out, number)),
+            Start::Refused(number) => self.at(answers::settings(rt, o, self.out, number)),
         }
     }
 
     // What a frame was answered.
-    fn answered(self, x: Answer, o: &mut Out) -> Kept
+    fn answered<R: Print>(self, rt: &R, x: Answer, o: &mut Out) -> Kept
         ensures { Comes o.old self.out o.new result (answer_done (keeps_of self) x) }
     {
         let next = x.controller;
-        let a = answers::frame(o, self.out, x.number);
-        self.with(next, self.accepted, o, a)
+        let a = answers::frame(rt, o, self.out, x.number);
+        self.with(rt, next, self.accepted, o, a)
     }
 
     // A frame whose data are the first n bytes.
-    pub fn frame(self, id: u32, bytes: &Bytes, n: usize, o: &mut Out) -> Kept
+    pub fn frame<R: Print>(self, rt: &R, id: u32, bytes: &Bytes, n: usize, o: &mut Out) -> Kept
         ensures { Comes o.old self.out o.new result
             (frame_done id (take n bytes.now) (keeps_of self)) }
     {
         let held = self.held;
         match held {
-            Held::None => self.absent(o),
-            Held::Of(c) => self.answered(calls::frame(c, id, bytes, n), o),
+            Held::None => self.absent(rt, o),
+            Held::Of(c) => self.answered(rt, calls::frame(c, id, bytes, n), o),
         }
     }
 
     // What a write was answered, and what it wrote.
-    fn written(self, x: Written, buf: &Buffer, o: &mut Out) -> Kept
+    #[tactic(auto, unfolding(crate::specs::Host::written_done))]
+    fn written<R: Print>(self, rt: &R, x: Written, buf: &Buffer, o: &mut Out) -> Kept
         ensures { Comes o.old self.out o.new result
             (written_done (keeps_of self) x buf.now) }
     {
-        self.at(answers::write(o, self.out, x.number, x.bytes, buf))
+        self.at(answers::write(rt, o, self.out, x.number, x.bytes, buf))
     }
 
     // The settings in use written into the first n bytes.
-    pub fn write(self, n: usize, buf: &mut Buffer, o: &mut Out) -> Kept
+    #[tactic(auto, unfolding(crate::specs::Host::write_done, crate::specs::Host::write_buffer))]
+    pub fn write<R: Print>(self, rt: &R, n: usize, buf: &mut Buffer, o: &mut Out) -> Kept
         ensures comes { Comes o.old self.out o.new result
             (write_done n buf.old (keeps_of self)) }
         ensures buf_after { buf.new ≡ write_buffer n buf.old self.held }
     {
         let held = self.held;
         match held {
-            Held::None => self.absent(o),
-            Held::Of(c) => self.written(calls::write(c, buf, n), buf, o),
+            Held::None => self.absent(rt, o),
+            Held::Of(c) => self.written(rt, calls::write(c, buf, n), buf, o),
         }
     }
 }

@@ -13,6 +13,7 @@ use replay_script::clock::{Clock, Due};
 use replay_script::lent::{Lent, Temperatures, Voltages};
 use replay_text::hex::Bytes;
 use replay_text::{Text, lines};
+use std::io::Print;
 
 // All that a run keeps from line to line, but for the tables and the buffers: the controller with the free place of the
 // output, what ticks are lent, a log's clock, and the line's number.
@@ -25,6 +26,7 @@ pub struct Run {
 }
 
 impl Run {
+    #[tactic(auto, unfolding(crate::specs::Lines::start_run))]
     pub fn start() -> Run
         ensures { result ≡ start_run }
     {
@@ -37,8 +39,10 @@ impl Run {
     }
 
     // The calls that a line asks for.
-    fn calls(
+    #[tactic(auto, unfolding(crate::specs::Lines::calls_buffer))]
+    fn calls<R: Print>(
         self,
+        rt: &R,
         asked: Asked,
         bytes: &Bytes,
         v: &Voltages,
@@ -55,31 +59,32 @@ impl Run {
     {
         let k = self.kept;
         match asked {
-            Asked::Settings(n) => k.settings(bytes, n, o),
+            Asked::Settings(n) => k.settings(rt, bytes, n, o),
             Asked::Ticks(n) => {
-                let later = k.absent(o);
-                later.ticks(n, self.lent, v, t, buf, o)
+                let later = k.absent(rt, o);
+                later.ticks(rt, n, self.lent, v, t, buf, o)
             }
-            Asked::Frame(id, n) => k.frame(id, bytes, n, o),
+            Asked::Frame(id, n) => k.frame(rt, id, bytes, n, o),
             Asked::Logged(now, id, n) => {
                 let clock = self.clock;
                 match clock.due(now) {
                     Due::Ticks(due, _) => {
-                        let ticked = k.ticks(due, self.lent, v, t, buf, o);
-                        ticked.frame(id, bytes, n, o)
+                        let ticked = k.ticks(rt, due, self.lent, v, t, buf, o);
+                        ticked.frame(rt, id, bytes, n, o)
                     }
-                    Due::TooMany => k.unreadable(self.number, o),
+                    Due::TooMany => k.unreadable(rt, self.number, o),
                 }
             }
-            Asked::Write(n) => k.write(n, buf, o),
-            Asked::Unreadable => k.unreadable(self.number, o),
+            Asked::Write(n) => k.write(rt, n, buf, o),
+            Asked::Unreadable => k.unreadable(rt, self.number, o),
             _ => k,
         }
     }
 
     // What a line asks for, carried out.
-    fn carry_out(
+    fn carry_out<R: Print>(
         self,
+        rt: &R,
         asked: Asked,
         bytes: &Bytes,
         v: &Voltages,
@@ -94,7 +99,7 @@ impl Run {
     {
         let l = self.lent;
         Run {
-            kept: self.calls(asked, bytes, v, t, buf, o),
+            kept: self.calls(rt, asked, bytes, v, t, buf, o),
             lent: l.after(asked),
             clock: clock_after(self.clock, asked),
             number: self.number,
@@ -103,6 +108,7 @@ impl Run {
 }
 
 // A log's clock after a line: only a frame of a log moves it.
+#[tactic(auto, unfolding(crate::specs::Lines::clock_after))]
 fn clock_after(c: Clock, asked: Asked) -> Clock
     ensures { result ≡ clock_after asked c }
 {
@@ -116,7 +122,8 @@ fn clock_after(c: Clock, asked: Asked) -> Clock
 }
 
 // The lines of the text up to a place, carried out one after the other.
-pub fn carry_out_lines(
+pub fn carry_out_lines<R: Print>(
+    rt: &R,
     run: Run,
     text: &Text,
     last: usize,
@@ -140,7 +147,7 @@ pub fn carry_out_lines(
         let end = lines::line_end(text, at);
         let asked = replay_script::read_line(text, at, end, bytes, v, t);
         r.number = counts::next(r.number);
-        r = r.carry_out(asked, bytes, v, t, buf, o);
+        r = r.carry_out(rt, asked, bytes, v, t, buf, o);
         at = end + 1;
     }
     r
