@@ -16,7 +16,8 @@ import sys
 
 DECL = re.compile(r'(?m)^([ \t]*)((?:(?:abbrev|unfoldable|pub|record|data|ruleset)\s+)*)([^\s:(){}.,;|=@"«»`]+)(?:\s*[({][^\n]*?[)}])*\s*(?::(?!:)|=)')
 WORD = re.compile(r'[^\s(){}.;,@"«»`]+')
-FUNCTION = ("Proof.antt", "Answers.antt", "Invariants.antt")
+# The files of a function's own proof, which stand in a folder below proofs/.
+OWN = re.compile(r"/proofs/.+/(?:Proof|Answers|Invariants)\.antt$")
 # In a function's own files a name behind one of these heads is a step, a goal or a field that Rattle makes.
 MADE = re.compile(r"(?:^|[\s(){},;])(?:c|goal|tie|w|l|g)\.$")
 
@@ -42,7 +43,7 @@ def declared(root):
     """Every name that a file of specs/ or proofs/ declares, with whether it is a definition of the first column."""
     names = {}
     for p in walk(root):
-        if not p.endswith(".antt") or os.path.basename(p) in FUNCTION:
+        if not p.endswith(".antt") or OWN.search(p):
             continue
         text = re.sub(r"--[^\n]*", "", read(p))
         for m in DECL.finditer(text):
@@ -158,7 +159,7 @@ def main():
     changed = 0
     for p in list(walk(root)) + papers:
         if p.endswith(".antt"):
-            new = turn_antt(read(p), turned, os.path.basename(p) in FUNCTION)
+            new = turn_antt(read(p), turned, bool(OWN.search(p)))
         elif p.endswith(".rt"):
             new = turn_rt(read(p), {k: v for k, v in turned.items() if k not in EXTRA})
         elif p.endswith(".edit"):
