@@ -25,7 +25,8 @@ MADE = re.compile(r"(?:^|[\s(){},;])(?:c|goal|tie|w|l|g)\.$")
 def walk(root):
     for crate in sorted(os.listdir(os.path.join(root, "crates"))):
         for folder, dirs, files in os.walk(os.path.join(root, "crates", crate)):
-            dirs[:] = sorted(d for d in dirs if d not in ("out", "target"))
+            if folder == os.path.join(root, "crates", crate):
+                dirs[:] = sorted(d for d in dirs if d != "out")
             for f in sorted(files):
                 yield os.path.join(folder, f)
 

@@ -10,7 +10,7 @@ use Rattle.controller.specs.Start.{start_of}
 use Rattle.controller.specs.declared.Controller.{Controller}
 use Rattle.controller.specs.declared.Start.TheVariants.{Made, Refused}
 use Rattle.replay_print.proofs.Laws.{prints_none, prints_then}
-use Rattle.replay_print.specs.Answers.{settingsLine, noControllerLine}
+use Rattle.replay_print.specs.Answers.{settings_line, no_controller_line}
 use Rattle.replay_print.specs.Out.{Prints}
 use Rattle.settings.specs.Write.{written_of}
 use Rattle.settings.specs.declared.Settings.{Settings}
@@ -44,11 +44,11 @@ comes_eq a e = rw (← e) a
 
 module _ (x : Keeps) where
   pub made : (bytes : List ℕ) (c : Controller) → start_of bytes ≡ Made c
-      → first (settingsLine 0) (entered x.held c 0) ≡ settings_done bytes x
+      → first (settings_line 0) (entered x.held c 0) ≡ settings_done bytes x
   unfolding settings_done start_done
   made bytes c e = rw e
 
-  pub not_made : (bytes : List ℕ) (n : ℕ) → start_of bytes ≡ Refused n → only (settingsLine n) x ≡ settings_done bytes x
+  pub not_made : (bytes : List ℕ) (n : ℕ) → start_of bytes ≡ Refused n → only (settings_line n) x ≡ settings_done bytes x
   unfolding settings_done start_done
   not_made bytes n e = rw e
 
@@ -74,7 +74,7 @@ module _ (x : Keeps) where
   write_of_lem n old c e = rw e
 
 -- whether there is a controller
-absent_by : (h : Held) (x : Keeps) → is_none h ≡ true → only noControllerLine x ≡ absent_for h x
+absent_by : (h : Held) (x : Keeps) → is_none h ≡ true → only no_controller_line x ≡ absent_for h x
 unfolding absent_for is_none
 absent_by None x e = refl
 absent_by (Of c) x e = absurd (false≢true e)
@@ -84,7 +84,7 @@ unfolding absent_for is_none
 present_by None x e = absurd (false≢true (sym e))
 present_by (Of c) x e = refl
 
-pub absent_none : (x : Keeps) → is_none x.held ≡ true → only noControllerLine x ≡ absent_done x
+pub absent_none : (x : Keeps) → is_none x.held ≡ true → only no_controller_line x ≡ absent_done x
 unfolding absent_done
 absent_none x e = absent_by x.held x e
 

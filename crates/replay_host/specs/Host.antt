@@ -10,7 +10,7 @@ use Rattle.controller.specs.Start.{start_of}
 use Rattle.controller.specs.Frame.{frame_to}
 use Rattle.replay_print.specs.declared.standings.Standing.{Standing}
 use Rattle.replay_print.specs.Out.{Prints}
-use Rattle.replay_print.specs.Answers.{settingsLine, frameLine, writeLine, noControllerLine, unreadableLine}
+use Rattle.replay_print.specs.Answers.{settings_line, frame_line, write_line, no_controller_line, unreadable_line}
 use Rattle.replay_print.specs.Standings.{standing_of, idle_standing, changed_text}
 use Rattle.replay_host.specs.declared.held.Held.{Held}
 use Rattle.replay_host.specs.declared.held.Held.TheVariants.{None, Of}
@@ -72,19 +72,19 @@ entered before c accepted =
 
 -- a settings record: a fresh controller, whose next tick is the first, or the one in use stays
 unfoldable pub start_done : Keeps → Start → Outcome
-start_done x (Made c) = first (settingsLine 0) (entered x.held c 0)
-start_done x (Refused n) = only (settingsLine n) x
+start_done x (Made c) = first (settings_line 0) (entered x.held c 0)
+start_done x (Refused n) = only (settings_line n) x
 
 unfoldable pub settings_done : List ℕ → Keeps → Outcome
 settings_done bytes x = start_done x (start_of bytes)
 
 -- a frame that was answered
 unfoldable pub answer_done : Keeps → Answer → Outcome
-answer_done x a = first (frameLine a.number) (entered x.held a.controller x.accepted)
+answer_done x a = first (frame_line a.number) (entered x.held a.controller x.accepted)
 
 -- a received frame, for what is held
 unfoldable pub frame_for : Held → ℕ → List ℕ → Keeps → Outcome
-frame_for None id bytes x = only noControllerLine x
+frame_for None id bytes x = only no_controller_line x
 frame_for (Of c) id bytes x = answer_done x (frame_to c id bytes)
 
 unfoldable pub frame_done : ℕ → List ℕ → Keeps → Outcome
@@ -92,11 +92,11 @@ frame_done id bytes x = frame_for x.held id bytes x
 
 -- a write that was answered, with the buffer after it
 unfoldable pub written_done : Keeps → Written → List ℕ → Outcome
-written_done x w buf = only (writeLine w.number w.bytes buf) x
+written_done x w buf = only (write_line w.number w.bytes buf) x
 
 -- a write into the first n bytes of a buffer, for what is held
 unfoldable pub write_for : Held → ℕ → List ℕ → Keeps → Outcome
-write_for None n old x = only noControllerLine x
+write_for None n old x = only no_controller_line x
 write_for (Of c) n old x = written_done x (written_of c.settings (take n old)) (buffer_written c.settings n old)
 
 unfoldable pub write_done : ℕ → List ℕ → Keeps → Outcome
@@ -109,7 +109,7 @@ write_buffer n old (Of c) = buffer_written c.settings n old
 
 -- that there is no controller is printed where there is none
 unfoldable pub absent_for : Held → Keeps → Outcome
-absent_for None x = only noControllerLine x
+absent_for None x = only no_controller_line x
 absent_for (Of c) x = only [] x
 
 unfoldable pub absent_done : Keeps → Outcome
@@ -117,4 +117,4 @@ absent_done x = absent_for x.held x
 
 -- a line that cannot be read
 unfoldable pub unreadable_done : ℕ → Keeps → Outcome
-unreadable_done number x = only (unreadableLine number) x
+unreadable_done number x = only (unreadable_line number) x

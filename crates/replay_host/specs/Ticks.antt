@@ -2,7 +2,7 @@
 use Rattle.std.specs.Prelude.{ℕ, zero, suc, cond, List, [], eqb, ℤ, take}
 use Rattle.controller.specs.declared.Ticked.{Ticked}
 use Rattle.replay_script.specs.declared.lent.Lent.{Lent}
-use Rattle.replay_print.specs.Answers.{tickLine}
+use Rattle.replay_print.specs.Answers.{tick_line}
 use Rattle.replay_print.specs.Frames.{sent_text}
 use Rattle.replay_host.specs.declared.held.Held.{Held}
 use Rattle.replay_host.specs.declared.held.Held.TheVariants.{None, Of}
@@ -13,7 +13,7 @@ use Rattle.replay_host.specs.Host.{Keeps, Outcome, only, first, entered}
 -- what a tick prints: an accepted one its frames, which are the first n bytes of the buffer, with the number of ticks
 -- accepted before it for their time; a refused one its number
 unfoldable pub tick_text : ℕ → ℕ → ℕ → List ℕ → List ℕ
-tick_text number n count buf = cond (eqb number 0) (sent_text count (take n buf)) (tickLine number)
+tick_text number n count buf = cond (eqb number 0) (sent_text count (take n buf)) (tick_line number)
 
 -- a tick that was answered, with the buffer after it
 unfoldable pub ticked_done : Keeps → Ticked → List ℕ → Outcome

@@ -4,20 +4,20 @@ use mathlib.Core.List.{[], ◌∷◌}
 use Rattle.session_states.specs.declared.states.State.TheVariants as state
 use Rattle.replay_print.specs.Quoted.{quoted}
 use Rattle.replay_print.specs.Text.{digits_up_to, decimal_of, padded_of, hex_of, hexes_of}
-use Rattle.replay_print.specs.Answers.{numberedLine, settingsLine, writtenText, writeLine}
+use Rattle.replay_print.specs.Answers.{numbered_line, settings_line, written_text, write_line}
 use Rattle.replay_print.specs.Frames.{time_text, frame_text, sent_line, sent_lines, sent_text}
 use Rattle.replay_print.specs.Standings.{state_name, standing_of, station_text, standing_line}
 
-pub settings_row : settingsLine 0 ≡ quoted "settings 0\n"
-unfolding numberedLine decimal_of digits_up_to
+pub settings_row : settings_line 0 ≡ quoted "settings 0\n"
+unfolding numbered_line decimal_of digits_up_to
 settings_row = refl
 
-pub write_none_row : writeLine 17 0 [] ≡ quoted "write 17 0 -\n"
-unfolding writeLine writtenText decimal_of digits_up_to
+pub write_none_row : write_line 17 0 [] ≡ quoted "write 17 0 -\n"
+unfolding write_line written_text decimal_of digits_up_to
 write_none_row = refl
 
-pub write_row : writeLine 0 2 (0x0a ∷ 0xf4 ∷ 0 ∷ []) ≡ quoted "write 0 2 0AF4\n"
-unfolding writeLine writtenText decimal_of digits_up_to hexes_of hex_of
+pub write_row : write_line 0 2 (0x0a ∷ 0xf4 ∷ 0 ∷ []) ≡ quoted "write 0 2 0AF4\n"
+unfolding write_line written_text decimal_of digits_up_to hexes_of hex_of
 write_row = refl
 
 -- the frame 182756F4 of tick 31, at 1.55 s

@@ -1,10 +1,10 @@
-use Rattle.replay_print.specs.Answers.{writeLine}
+use Rattle.replay_print.specs.Answers.{write_line}
 use Rattle.replay_print.proofs.Laws.{prints_eq, prints_then}
 use Rattle.replay_print.proofs.Spelled.{padded_one}
 use Rattle.replay_print.proofs.answers.write.Goals as goal
 
 pub returns : goal.returns
-unfolding writeLine
+unfolding write_line
 returns g c =
     prints_then c.text-a.ensures
     (prints_then (prints_eq c.decimal-a.ensures (padded_one _))
