@@ -3,7 +3,6 @@
 // asks for, how an answer is printed, nor any rule of the paper.
 #![tactic(auto)]
 
-use libc::STDIN_FILENO;
 use replay_host::lines::Run;
 use replay_print::out::Out;
 use replay_print::{Buffer, out};
@@ -11,6 +10,7 @@ use replay_script::lent;
 use replay_script::lent::{Temperatures, Voltages};
 use replay_text::hex::Bytes;
 use replay_text::{Text, lines};
+use std::io::{Input, Print, Read};
 
 // A run, how many characters are held of the line that it is in, and whether there may be more input.
 #[derive(Clone, Copy)]
@@ -20,14 +20,15 @@ struct Place {
     more: bool,
 }
 
-// One read of the input, from a place on: how many bytes.
-fn fill(buf: &mut [u8], from: usize) -> usize {
+// One read of the input, from a place on: how many bytes. One that fails ends the input.
+fn fill<I: Read>(input: &mut I, buf: &mut [u8], from: usize) -> usize {
     if buf.len() < from {
         return 0;
     }
-    let part = &mut buf[from..];
-    let got = libc::read(STDIN_FILENO, part);
-    io::count(got, part)
+    match input.read(&mut buf[from..]) {
+        Ok(n) => n,
+        Err(_) => 0,
+    }
 }
 
 // How much is held after a read of so many bytes; at the input's end one more, the newline that ends the last line.
@@ -46,7 +47,9 @@ fn or_end(text: &mut Text, filled: usize, count: usize) -> usize {
 
 // One read of the input, and the lines that it ends. What is held of the line after these is moved to the start, to be
 // read on.
-fn chunk(
+fn chunk<I: Read, R: Print>(
+    input: &mut I,
+    rt: &R,
     p: Place,
     text: &mut Text,
     bytes: &mut Bytes,
@@ -55,10 +58,10 @@ fn chunk(
     buf: &mut Buffer,
     o: &mut Out,
 ) -> Place {
-    let count = fill(text, p.filled);
+    let count = fill(input, text, p.filled);
     let n = or_end(text, p.filled, count);
     let last = lines::past_last(text, n);
-    let r = replay_host::lines::carry_out_lines(p.run, text, last, bytes, v, t, buf, o);
+    let r = replay_host::lines::carry_out_lines(rt, p.run, text, last, bytes, v, t, buf, o);
     let begun = lines::moved(text, last, n);
     Place {
         run: r,
@@ -67,7 +70,8 @@ fn chunk(
     }
 }
 
-fn main() {
+fn main(rt: HostRuntime) {
+    let mut input = rt.reader();
     let mut text = [0u8; 65536];
     let mut bytes = [0u8; 2048];
     let mut v = lent::first_voltages();
@@ -84,9 +88,11 @@ fn main() {
         if !p.more {
             break;
         }
-        p = chunk(p, &mut text, &mut bytes, &mut v, &mut t, &mut buf, &mut o);
+        p = chunk(
+            &mut input, &rt, p, &mut text, &mut bytes, &mut v, &mut t, &mut buf, &mut o,
+        );
         turns -= 1;
     }
     let r = p.run;
-    out::finish(&o, r.kept.out);
+    out::finish(&rt, &o, r.kept.out);
 }
