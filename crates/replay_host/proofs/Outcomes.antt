@@ -1,6 +1,6 @@
 -- How what calls come to is put together: a text alone, a text before all else, the same by another name; and what each
 -- call comes to by what is held. Assumes nothing.
-use Prim.Native.Nat.{ℕ, ◌-◌}
+use Prim.Native.Nat.{ℕ}
 use mathlib.Core.Path.{◌≡◌, refl, sym, ◌∙◌}
 use mathlib.Core.Bool.{true, false, false≢true}
 use mathlib.Core.List.{List, []}

@@ -2,7 +2,7 @@
 use Prim.Native.Nat.{ℕ, zero, suc, ◌-◌, ◌≤◌, ◌<◌}
 use native.Mathlib.Nat.{not-suc-le-zero}
 use mathlib.Core.Path.{◌≡◌, refl, sym, ◌∙◌}
-use mathlib.Core.Bool.{true, false, false≢true}
+use mathlib.Core.Bool.{true, false≢true}
 use mathlib.Core.List.{List, []}
 use native.Mathlib.Omega.{arith}
 use lib.IntN.{ℤ}
@@ -13,7 +13,7 @@ use Rattle.replay_print.proofs.Laws.{laid_append}
 use Rattle.replay_print.specs.Out.{Output, out_of, laid_of}
 use Rattle.replay_script.specs.declared.lent.Lent.{Lent}
 use Rattle.replay_calls.specs.Calls.{tick_accepted, tick_sent, tick_answer, buffer_ticked, TickLent}
-use Rattle.replay_host.specs.Host.{Keeps, keeps_of, Comes, only, first, is_none}
+use Rattle.replay_host.specs.Host.{Keeps, keeps_of, Comes, only, is_none}
 use Rattle.replay_host.specs.Ticks.{ticked_done, tick_for, tick_done, tick_buffer, ticks_done, ticks_buffer}
 use Rattle.replay_host.specs.declared.held.Held.TheVariants.{None, Of}
 use Rattle.replay_host.specs.declared.held.Held.{Held}

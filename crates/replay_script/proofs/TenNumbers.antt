@@ -6,7 +6,6 @@ use mathlib.Core.Bool.{Bool, true, false, cond, ◌&&◌}
 use borrow.Author.Tests.{le-leb}
 use lib.Dec.{leb}
 use Rattle.replay_text.proofs.Most.{up_to_most, only_most}
-use Rattle.readings.specs.declared.Readings as readings
 use Rattle.replay_script.specs.declared.Asked.TheVariants.{Readings, Unreadable}
 use Rattle.replay_script.specs.Ticks.{Ten, all_good, ten_in, readings_of, readings_in}
 use Rattle.replay_script.proofs.Tests.{and_left, and_right, picked}

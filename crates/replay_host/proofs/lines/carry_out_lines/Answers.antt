@@ -1,4 +1,3 @@
-use Rattle.std.proofs.Common.{arith}
 use borrow.Author.Tests.{lt-ltb, le-ltb}
 use Rattle.replay_host.specs.Lines.{world_of}
 use Rattle.replay_host.proofs.Carrying.{carries_eq, line_by, left_first, left_next, left_last}

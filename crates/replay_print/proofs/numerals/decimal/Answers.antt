@@ -1,4 +1,4 @@
-use Rattle.std.proofs.Common.{ℕ, ◌≡◌, ◌-◌, take, length, replicate, arith, ap, ◌∙◌}
+use Rattle.std.proofs.Common.{ℕ, ◌≡◌, ◌-◌, take, length, replicate, ap, ◌∙◌}
 use Rattle.replay_print.specs.Text.{decimal_of, padded_of}
 use Rattle.replay_print.proofs.Laws.{prints_eq, prints_then}
 use Rattle.replay_print.proofs.Spelled.{spelled}

@@ -1,7 +1,7 @@
 use Rattle.std.proofs.Common.{◌≡◌, rules}
 use mir.Val.{to_z, of_z}
 use mir.Syntax.{w16}
-use Rattle.replay_script.specs.Ticks.{Ten, all_good, ten_in}
+use Rattle.replay_script.specs.Ticks.{Ten, ten_in}
 use Rattle.replay_script.proofs.TenNumbers.{ten_read, ten_unread}
 use Rattle.replay_script.proofs.ticks.readings.Goals as goal
 

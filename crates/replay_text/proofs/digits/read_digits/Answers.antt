@@ -1,6 +1,6 @@
-use Rattle.std.proofs.Common.{◌≡◌, refl, sym, ◌∙◌, arith, Bool, true, false, slice_index_or}
+use Rattle.std.proofs.Common.{◌≡◌, refl, sym, ◌∙◌, arith, true, false, slice_index_or}
 use borrow.Author.Tests.{lt-ltb, le-ltb}
-use Rattle.replay_text.specs.Digits.{is_digit, digits_after, digits_at}
+use Rattle.replay_text.specs.Digits.{is_digit, digits_at}
 use Rattle.replay_text.proofs.Walks.{leading_none, leading_past}
 use Rattle.replay_text.proofs.Values.{digits_more, digits_end}
 use Rattle.replay_text.proofs.digits.read_digits.Goals as goal

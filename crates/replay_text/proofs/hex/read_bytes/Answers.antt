@@ -1,4 +1,4 @@
-use Rattle.std.proofs.Common.{◌≡◌, ◌+◌, ◌-◌, ◌*◌, ◌<◌, ◌≤◌, ℕ, ap, sym, ◌∙◌, arith}
+use Rattle.std.proofs.Common.{◌≡◌, ◌+◌, ◌-◌, ◌*◌, ◌<◌, ◌≤◌, ℕ, ap, ◌∙◌, arith}
 use borrow.Author.Tests.{lt-ltb}
 use Rattle.replay_text.specs.Chars.{byte_at, next_place}
 use Rattle.replay_text.specs.Digits.{digit_of}

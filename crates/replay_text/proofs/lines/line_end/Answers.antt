@@ -1,4 +1,4 @@
-use Rattle.std.proofs.Common.{◌≡◌, sym, ◌∙◌, arith}
+use Rattle.std.proofs.Common.{sym, ◌∙◌, arith}
 use borrow.Author.Tests.{eq-eqb, ne_eqb}
 use Rattle.replay_text.specs.Chars.{in_line}
 use Rattle.replay_text.proofs.Walks.{past_more, past_here, past_over, past_from, past_within}

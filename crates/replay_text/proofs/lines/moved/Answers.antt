@@ -1,4 +1,4 @@
-use Rattle.std.proofs.Common.{◌≡◌, ◌+◌, ◌<◌, min, length, sym, ◌∙◌, arith, take_all}
+use Rattle.std.proofs.Common.{◌≡◌, ◌+◌, ◌<◌, min, length, ◌∙◌, arith, take_all}
 use Rattle.replay_text.specs.Chars.{laid_first}
 use Rattle.replay_text.specs.Lines.{part}
 use Rattle.replay_text.proofs.Held.{length_part, moving_more}

@@ -1,4 +1,4 @@
-use Rattle.std.proofs.Common.{◌≡◌, ◌-◌, true, arith}
+use Rattle.std.proofs.Common.{◌≡◌, ◌-◌, arith}
 use borrow.Author.Tests.{not-true, not-false}
 use Rattle.replay_script.specs.Clocks.{due_of}
 use Rattle.replay_script.proofs.DueTicks.{due_none, due_many, due_some}
