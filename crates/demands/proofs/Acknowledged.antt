@@ -1,7 +1,6 @@
 -- A run as calls that were made, from the start, that ends by an acknowledgement: the handshake of eight ticks to
 -- Charging, a tick at which charge is not wanted, which enters Stopping and sends an EST, and the station's CST AA.
 -- Assumes nothing.
-use Prim.Native.Nat.{◌+◌}
 use mathlib.Core.Path.{◌≡◌, refl, sym, ap, subst, ◌∙◌}
 use mathlib.Core.Bool.{Bool, true, false, ◌&&◌, false≢true}
 use mathlib.Core.List.{List, [], ◌∷◌, ◌++◌}
@@ -9,7 +8,6 @@ use lib.Dec.{ltb}
 use lib.IntN.{pos}
 use Rattle.buffers.proofs.Tests.{and_left, and_right}
 use Rattle.settings.specs.declared.Settings.{Settings}
-use Rattle.settings.specs.declared.SettingsRead.TheVariants as read
 use Rattle.readings.specs.declared.Readings.{Readings}
 use Rattle.readings.specs.Readings.{wanted_of, readings_in_range, current_ok}
 use Rattle.cells.specs.declared.Cells.{Cells}
@@ -42,7 +40,6 @@ use Rattle.demands.specs.Statements.{NextCall, has_gone, AnAcknowledgedStop}
 use Rattle.demands.proofs.Tests.{same}
 use Rattle.demands.proofs.Comes.{kept_settings, taken_in}
 use Rattle.demands.proofs.Silent.{zeros}
-use Rattle.demands.proofs.SilentRun.{tick}
 use Rattle.demands.proofs.ReachRun.{ours, offer, cim, cst_data, says_cst, eight, eight_are_enough}
 use Rattle.demands.proofs.OfCalls.{est_gone, each_ends_a_session}
 use Rattle.demands.proofs.RunsMade.{all, last, all_made, last_is}

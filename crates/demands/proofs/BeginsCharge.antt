@@ -30,7 +30,7 @@ use Rattle.controller.specs.declared.Controller.{Controller}
 use Rattle.controller.specs.declared.Answer.{Answer}
 use Rattle.controller.specs.Start.{fresh_of}
 use Rattle.controller.specs.Frame.{session_moved}
-use Rattle.demands.specs.Machine.{Read, Receive, Tick, NoController}
+use Rattle.demands.specs.Machine.{Receive, Tick, NoController}
 use Rattle.demands.specs.InStep.{code_of}
 use Rattle.demands.specs.Calls.{CallMade, DidRead, DidReceive, DidTick, DidWrite, call_in, KeepsPromise, calls_in}
 use Rattle.demands.specs.Steps.{Step, steps_of}

@@ -12,7 +12,6 @@ use lib.IntN.{ℤ}
 use lib.ListN.{length}
 use Rattle.messages.specs.declared.received.Charge.{Charge}
 use Rattle.messages.specs.declared.received.Charge.TheVariants as charge
-use Rattle.messages.specs.declared.received.Query.{Query}
 use Rattle.messages.specs.declared.received.Query.TheVariants as query
 use Rattle.messages.specs.declared.received.Message.TheVariants as message
 use Rattle.messages.specs.declared.received.Recognized.{Recognized}

@@ -2,7 +2,7 @@
 -- bytes written, the frames sent and the later contents of each lent buffer, call for call, however long a session
 -- lasts and however many there were before. The entry points' promises are this machine: `tick_is_the_machine` and the
 -- three after it. Assumes nothing.
-use Prim.Native.Nat.{ℕ, ◌+◌, ◌*◌}
+use Prim.Native.Nat.{ℕ, ◌*◌}
 use mathlib.Core.Path.{◌≡◌, refl, ap}
 use mathlib.Core.Bool.{Bool, true, false, cond}
 use mathlib.Core.List.{List, [], ◌∷◌, ◌++◌}

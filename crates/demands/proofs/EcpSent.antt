@@ -26,7 +26,6 @@ use Rattle.charge_messages.specs.declared.ChargeMessage.{ChargeMessage}
 use Rattle.session_states.specs.Limits.{first_ecp}
 use Rattle.session_states.specs.States.{is_parameters}
 use Rattle.session_states.specs.declared.states.State.{State}
-use Rattle.session_states.specs.declared.states.State.TheVariants.{Parameters}
 use Rattle.session_by_message.specs.declared.Outcome.{Outcome}
 use Rattle.session_by_message.specs.Message.{outcome_of}
 use Rattle.session_by_tick.specs.declared.Turn.{Turn}

@@ -7,9 +7,7 @@ use mathlib.Core.List.{List, [], ◌∷◌, ◌++◌}
 use lib.Dec.{eqb}
 use lib.IntN.{ℤ}
 use lib.ListN.{length}
-use Rattle.messages.specs.declared.received.Charge.{Charge}
 use Rattle.messages.specs.declared.received.Message.TheVariants as message
-use Rattle.messages.specs.declared.received.Recognized.TheVariants as recognized
 use Rattle.messages.specs.Identifier.{parts_of}
 use Rattle.messages.specs.Received.{recognized_of}
 use Rattle.frames.specs.declared.Frame.{Frame}

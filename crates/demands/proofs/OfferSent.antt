@@ -1,8 +1,7 @@
 -- As sent, no ECR asks more than the last CMP taken offers (specs/Offers.antt). Assumes nothing.
-use Prim.Native.Nat.{ℕ, ◌+◌, ◌-◌, ◌/◌, ◌≤◌}
+use Prim.Native.Nat.{ℕ, ◌+◌, ◌-◌, ◌≤◌}
 use native.Mathlib.Omega.{arith}
 use mathlib.Core.Path.{◌≡◌, sym, ap, subst}
-use Rattle.messages.specs.Table.{ECR}
 use Rattle.settings.specs.declared.Settings.{Settings}
 use Rattle.cells.specs.declared.Cells.{Cells}
 use Rattle.cells.specs.Summaries.{cells_of}
@@ -10,7 +9,6 @@ use Rattle.session_states.specs.declared.phases.Phase.{Phase}
 use Rattle.session_states.specs.declared.phases.Phase.TheVariants.{Drive, Rest, Hold}
 use Rattle.session_states.specs.declared.states.State.{State}
 use Rattle.session_states.specs.declared.states.State.TheVariants.{Charging}
-use Rattle.session_by_tick.specs.declared.Turn.TheVariants as turn
 use Rattle.session_frames.specs.Layouts.{ecr_frame, ecr_of}
 use Rattle.session.specs.declared.Session.{Session}
 use Rattle.session_paper_counts.specs.Literal.{older, grown, literal_in, literal_advance, literal_tick}

@@ -30,7 +30,6 @@ use Rattle.session_states.specs.Phases.{phase_after}
 use Rattle.session_states.specs.declared.states.State.{State}
 use Rattle.session_states.specs.declared.states.State.TheVariants.{Idle, Offered, Unverified, Parameters, Ready, Charging, Stopping, Error}
 use Rattle.session_by_message.specs.declared.Outcome.{Outcome}
-use Rattle.session_by_message.specs.declared.Outcome.TheVariants.{Enter, End}
 use Rattle.session_by_message.specs.Message.{outcome_of}
 use Rattle.session_by_tick.specs.declared.Turn.{Turn}
 use Rattle.session_by_tick.specs.declared.Turn.TheVariants as turn

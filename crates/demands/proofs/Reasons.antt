@@ -1,6 +1,6 @@
 -- What a tick makes of each state, by the first of the paper's rules that holds: the reason of specs/Stops.antt leads
 -- where it says. Assumes nothing.
-use Prim.Native.Nat.{ℕ, ◌/◌}
+use Prim.Native.Nat.{ℕ}
 use mathlib.Core.Path.{◌≡◌, refl, subst}
 use mathlib.Core.Bool.{Bool, true, false, cond, ◌&&◌, ◌||◌}
 use lib.Dec.{leb}

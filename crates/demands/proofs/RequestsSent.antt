@@ -6,7 +6,6 @@ use native.Mathlib.Omega.{arith}
 use mathlib.Core.Path.{◌≡◌, refl, sym, ap, subst, ◌∙◌}
 use mathlib.Core.List.{List}
 use lib.IntN.{ℤ}
-use Rattle.messages.specs.Table.{ECR}
 use Rattle.settings.specs.declared.Settings.{Settings}
 use Rattle.readings.specs.declared.Readings.{Readings}
 use Rattle.cells.specs.declared.Cells.{Cells}
@@ -14,7 +13,6 @@ use Rattle.cells.specs.Summaries.{cells_of}
 use Rattle.session_states.specs.declared.phases.Phase.{Phase}
 use Rattle.session_states.specs.declared.phases.Phase.TheVariants.{Drive, Rest, Hold}
 use Rattle.session_states.specs.declared.states.State.TheVariants.{Charging}
-use Rattle.session_by_tick.specs.declared.Turn.TheVariants as turn
 use Rattle.session_frames.specs.Layouts.{hold_voltage, ecr_frame, ecr_of}
 use Rattle.session.specs.Tick.{turned_by, turn_in}
 use Rattle.controller.specs.declared.Controller.{Controller}

@@ -1,8 +1,6 @@
 -- "Stopping and Error end to Idle at count 600" (01, "Session by tick"), whatever anyone sends, and "Stopping EST each
 -- tick". For `closing_ends` and `est_each_tick`.
 use Rattle.std.specs.Prelude.{ℕ, ◌+◌}
-use Rattle.messages.specs.Table.{EST}
-use Rattle.session_states.specs.declared.states.State.TheVariants.{Idle, Stopping, Error}
 use Rattle.session_states.specs.Limits.{closing_limit}
 
 -- the ticks at count 0 to 600, of which the last ends it

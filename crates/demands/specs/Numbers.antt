@@ -1,7 +1,6 @@
 -- "Numbers returned" (01), the table: a line a number, in numeric order, each with what it is "given exactly when". A
 -- call is answered by the first of its numbers whose test holds, and by 0 where none does. For `the_numbers`.
 use Rattle.std.specs.Prelude.{ℕ, Bool, false, not, cond, ◌&&◌, List, [], ◌∷◌, eqb, leb, ltb, length}
-use Rattle.messages.specs.declared.received.Charge.{Charge}
 use Rattle.messages.specs.declared.received.Message.TheVariants as message
 use Rattle.messages.specs.declared.received.Recognized.{Recognized}
 use Rattle.messages.specs.declared.received.Recognized.TheVariants as recognized

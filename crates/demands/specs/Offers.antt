@@ -14,7 +14,7 @@ use Rattle.charge_messages.specs.declared.Content.{Content}
 use Rattle.charge_messages.specs.declared.Content.TheVariants as content
 use Rattle.charge_messages.specs.Content.{content_of}
 use Rattle.session_states.specs.declared.states.State.{State}
-use Rattle.session_states.specs.declared.states.State.TheVariants.{Ready, Charging}
+use Rattle.session_states.specs.declared.states.State.TheVariants.{Charging}
 use Rattle.session_states.specs.States.{is_ready}
 use Rattle.session_states.specs.Phases.{start_phase}
 use Rattle.session_by_message.specs.Offer.{accepted_of, station_maximum}

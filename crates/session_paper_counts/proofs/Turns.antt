@@ -20,7 +20,7 @@ use Rattle.session_states.specs.declared.phases.Cause.TheVariants.{PackVoltage, 
 use Rattle.session_states.specs.declared.phases.PhaseAfter.{PhaseAfter}
 use Rattle.session_states.specs.declared.phases.PhaseAfter.TheVariants as phase
 use Rattle.session_states.specs.Limits.{silence_limit, closing_limit, drive_limit, rest_limit, hold_limit, most_drives}
-use Rattle.session_states.specs.Counts.{next_count, next_each_five, next_ecp, next_up_to}
+use Rattle.session_states.specs.Counts.{next_each_five, next_ecp, next_up_to}
 use Rattle.session_states.specs.Phases.{too_small, aged_of, drive_rules, hold_rules, after_rest, phase_after}
 use Rattle.session_states.specs.declared.states.Est.{Est}
 use Rattle.session_states.specs.declared.states.State.{State}

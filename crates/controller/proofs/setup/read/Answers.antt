@@ -1,5 +1,5 @@
 -- The number is the record's, and the controller is made of the settings read or there is none.
-use Rattle.std.proofs.Common.{ap, sym, ◌∙◌}
+use Rattle.std.proofs.Common.{ap}
 use Rattle.controller.specs.declared.Start.TheVariants.{Made}
 use Rattle.controller.specs.Start.{start_of, start_with}
 use Rattle.controller.proofs.setup.read.Goals as goal
