@@ -1,7 +1,7 @@
 #!/usr/bin/env python3
 """Spells the names that this repository declares in specs/ and proofs/ as today's Rattle spells names.
 
-usage: python3 tools/respell.py [ROOT]      once, right after /opt/rattle/port/port.py
+usage: python3 tools/respell.py [ROOT]      once, right after port.py of the kit
 
 A definition, a lemma or a field in camel case or with dashes gets words joined by underscores: lesserOf becomes
 lesser_of, what-ends-a-session becomes what_ends_a_session. Where a lemma or a field would then have the name of
