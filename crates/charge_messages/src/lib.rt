@@ -4,10 +4,11 @@
 #![tactic(auto)]
 
 ghost use Rattle.std.specs.Prelude.{◌≡◌, get_or};
-ghost use Rattle.charge_messages.specs.Content.{cim_of, cvm_of, cmp_of, crm_of, ccs_of, cst_of, cem_of, content_of};
-ghost use Rattle.charge_messages.specs.Content.{content_number, refusal_of};
+ghost use Rattle.charge_messages.specs.Content.{cim_of, cvm_of, cmp_of, crm_of, ccs_of, cst_of, cem_of, content_of, refusal_of};
+ghost use Rattle.numbers.specs.Numbers.{answered};
 
 use messages::received::Charge;
+use numbers::Refusal;
 use units::{RawAmps, TenthVolts};
 
 // CMP: the station's maximum and minimum voltage, and its maximum and minimum current as the words that they are.
@@ -31,33 +32,27 @@ pub enum ChargeMessage {
     Cem,
 }
 
-#[derive(Clone, Copy)]
-pub enum Content {
-    Allowed(ChargeMessage),
-    Refused(u8),
-}
-
-fn cim(a: u8, b: u8, c: u8) -> Content
+fn cim(a: u8, b: u8, c: u8) -> Result<ChargeMessage, Refusal>
     ensures { result ≡ cim_of a b c }
 {
     if (a == 1) & ((b == 1) & (c == 0)) {
-        Content::Allowed(ChargeMessage::Cim)
+        Ok(ChargeMessage::Cim)
     } else {
-        Content::Refused(10)
+        Err(Refusal::ContentNotAllowed)
     }
 }
 
-fn cvm(a: u8) -> Content
+fn cvm(a: u8) -> Result<ChargeMessage, Refusal>
     ensures { result ≡ cvm_of a }
 {
     match a {
-        0xaa => Content::Allowed(ChargeMessage::Cvm(true)),
-        0 => Content::Allowed(ChargeMessage::Cvm(false)),
-        _ => Content::Refused(10),
+        0xaa => Ok(ChargeMessage::Cvm(true)),
+        0 => Ok(ChargeMessage::Cvm(false)),
+        _ => Err(Refusal::ContentNotAllowed),
     }
 }
 
-fn cmp(bytes: &[u8]) -> Content
+fn cmp(bytes: &[u8]) -> Result<ChargeMessage, Refusal>
     ensures { result ≡ cmp_of bytes.now }
 {
     let offer = Offer {
@@ -66,54 +61,54 @@ fn cmp(bytes: &[u8]) -> Content
         most: RawAmps(buffers::word_at(bytes, 4)),
         least: RawAmps(buffers::word_at(bytes, 6)),
     };
-    Content::Allowed(ChargeMessage::Cmp(offer))
+    Ok(ChargeMessage::Cmp(offer))
 }
 
-fn crm(a: u8) -> Content
+fn crm(a: u8) -> Result<ChargeMessage, Refusal>
     ensures { result ≡ crm_of a }
 {
     match a {
-        0xaa => Content::Allowed(ChargeMessage::Crm(true)),
-        0 => Content::Allowed(ChargeMessage::Crm(false)),
-        0xff => Content::Allowed(ChargeMessage::Crm(false)),
-        _ => Content::Refused(10),
+        0xaa => Ok(ChargeMessage::Crm(true)),
+        0 => Ok(ChargeMessage::Crm(false)),
+        0xff => Ok(ChargeMessage::Crm(false)),
+        _ => Err(Refusal::ContentNotAllowed),
     }
 }
 
-fn ccs(e: u8) -> Content
+fn ccs(e: u8) -> Result<ChargeMessage, Refusal>
     ensures { result ≡ ccs_of e }
 {
     match e {
-        1 => Content::Allowed(ChargeMessage::Ccs(true)),
-        0 => Content::Allowed(ChargeMessage::Ccs(false)),
-        _ => Content::Refused(10),
+        1 => Ok(ChargeMessage::Ccs(true)),
+        0 => Ok(ChargeMessage::Ccs(false)),
+        _ => Err(Refusal::ContentNotAllowed),
     }
 }
 
-fn cst(c: u8) -> Content
+fn cst(c: u8) -> Result<ChargeMessage, Refusal>
     ensures { result ≡ cst_of c }
 {
     match c {
-        0xaa => Content::Allowed(ChargeMessage::Cst(true)),
-        0 => Content::Allowed(ChargeMessage::Cst(false)),
-        _ => Content::Refused(10),
+        0xaa => Ok(ChargeMessage::Cst(true)),
+        0 => Ok(ChargeMessage::Cst(false)),
+        _ => Err(Refusal::ContentNotAllowed),
     }
 }
 
-fn cem(c: u8) -> Content
+fn cem(c: u8) -> Result<ChargeMessage, Refusal>
     ensures { result ≡ cem_of c }
 {
     match c {
-        0xaa => Content::Allowed(ChargeMessage::Cem),
-        0 => Content::Allowed(ChargeMessage::Cem),
-        _ => Content::Refused(10),
+        0xaa => Ok(ChargeMessage::Cem),
+        0 => Ok(ChargeMessage::Cem),
+        _ => Err(Refusal::ContentNotAllowed),
     }
 }
 
 // The message that the data bytes are; a byte past the end counts as 0.
 #[tactic(auto, unfolding(crate::specs::Content::content_of))]
-pub fn read_content(m: Charge, bytes: &[u8]) -> Content
-    ensures number { content_number result ≡ refusal_of m bytes.now }
+pub fn read_content(m: Charge, bytes: &[u8]) -> Result<ChargeMessage, Refusal>
+    ensures number { answered result ≡ refusal_of m bytes.now }
     ensures answer { result ≡ content_of m bytes.now }
 {
     match m {

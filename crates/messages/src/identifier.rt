@@ -4,7 +4,7 @@ ghost use Rattle.messages.specs.Identifier.{parts_of, number_of, ps_part, identi
 
 use crate::table::Row;
 
-#[derive(Clone, Copy)]
+#[derive(Clone, Copy, Debug, PartialEq, Eq)]
 pub struct Identifier {
     pub priority: u8,
     pub reserved: u8,
@@ -14,12 +14,12 @@ pub struct Identifier {
     pub source: u8,
 }
 
-impl Identifier {
-    // The parts of an identifier.
+// The parts of an identifier.
+impl From<u32> for Identifier {
+    ghost from_gives = { λ id parts. parts ≡ parts_of id };
+
     #[tactic(auto, unfolding(crate::specs::Identifier::parts_of))]
-    pub fn parts(id: u32) -> Identifier
-        ensures { result ≡ parts_of id }
-    {
+    fn from(id: u32) -> Identifier {
         Identifier {
             priority: (id / 0x400_0000 % 8) as u8,
             reserved: (id / 0x200_0000 % 2) as u8,
@@ -29,18 +29,20 @@ impl Identifier {
             source: (id % 256) as u8,
         }
     }
+}
 
-    // The identifier of the parts, each in its own bits.
+// The identifier of the parts, each in its own bits.
+impl From<Identifier> for u32 {
+    ghost from_gives = { λ parts id. id ≡ number_of parts };
+
     #[tactic(auto, unfolding(crate::specs::Identifier::number_of))]
-    pub fn number(self) -> u32
-        ensures { result ≡ number_of self }
-    {
-        (self.priority % 8) as u32 * 0x400_0000
-            + (self.reserved % 2) as u32 * 0x200_0000
-            + (self.page % 2) as u32 * 0x100_0000
-            + self.pf as u32 * 0x1_0000
-            + self.ps as u32 * 0x100
-            + self.source as u32
+    fn from(parts: Identifier) -> u32 {
+        (parts.priority % 8) as u32 * 0x400_0000
+            + (parts.reserved % 2) as u32 * 0x200_0000
+            + (parts.page % 2) as u32 * 0x100_0000
+            + parts.pf as u32 * 0x1_0000
+            + parts.ps as u32 * 0x100
+            + parts.source as u32
     }
 }
 
@@ -62,13 +64,12 @@ fn ps_of(row: Row, target: u8) -> u8
 pub fn identifier_of(row: Row, target: u8, source: u8) -> u32
     ensures { result ≡ identifier_of row target source }
 {
-    Identifier {
+    u32::from(Identifier {
         priority: row.priority(),
         reserved: 0,
         page: 0,
         pf: row.pf(),
         ps: ps_of(row, target),
         source,
-    }
-    .number()
+    })
 }

@@ -1,14 +1,13 @@
 // The nine messages that we take, told by their PF (01, "Identifier and message numbers", and number 7).
 ghost use Rattle.std.specs.Prelude.{◌≡◌};
-ghost use Rattle.messages.specs.Received.{row_of, least_length, charge_row, query_row, recognized_of};
-ghost use Rattle.messages.specs.Received.{recognized_number, pf_number};
+ghost use Rattle.messages.specs.Received.{row_of, least_length, charge_row, query_row, RecognizesAs};
 
-use crate::identifier::Identifier;
 use crate::table;
 use crate::table::Row;
+use numbers::Refusal;
 
 // Station to us.
-#[derive(Clone, Copy)]
+#[derive(Clone, Copy, Debug, PartialEq, Eq)]
 pub enum Charge {
     Cim,
     Cvm,
@@ -19,70 +18,65 @@ pub enum Charge {
     Cem,
 }
 
-// Any node to us: for cell voltages, for cell temperatures.
-#[derive(Clone, Copy)]
-pub enum Query {
-    Acv,
-    Act,
+// Any node to us: the cells that it asks for, voltages by ACV, temperatures by ACT.
+#[derive(Clone, Copy, Debug, PartialEq, Eq)]
+pub enum Kind {
+    Voltages,
+    Temperatures,
 }
 
-#[derive(Clone, Copy)]
+#[derive(Clone, Copy, Debug, PartialEq, Eq)]
 pub enum Message {
     Charge(Charge),
-    Query(Query),
+    Query(Kind),
 }
 
-// The message that something received is, or the number of the refusal.
-#[derive(Clone, Copy)]
-pub enum Recognized {
-    As(Message),
-    Refused(u8),
-}
+// The message that a PF is. The number of the answer is 7 where it is not one of the nine.
+impl TryFrom<u8> for Message {
+    type Error = Refusal;
 
-// The number of the answer is 7 where the PF is not one of the nine.
-pub fn recognize(id: Identifier) -> Recognized
-    ensures number { recognized_number result ≡ pf_number id.pf }
-    ensures answer { result ≡ recognized_of id.pf }
-{
-    let pf = id.pf;
-    match pf {
-        0x26 => Recognized::As(Message::Charge(Charge::Cim)),
-        0x01 => Recognized::As(Message::Charge(Charge::Cvm)),
-        0x08 => Recognized::As(Message::Charge(Charge::Cmp)),
-        0x0a => Recognized::As(Message::Charge(Charge::Crm)),
-        0x12 => Recognized::As(Message::Charge(Charge::Ccs)),
-        0x16 => Recognized::As(Message::Charge(Charge::Cst)),
-        0x1f => Recognized::As(Message::Charge(Charge::Cem)),
-        0x1b => Recognized::As(Message::Query(Query::Acv)),
-        0x1c => Recognized::As(Message::Query(Query::Act)),
-        _ => Recognized::Refused(7),
-    }
-}
+    ghost try_from_gives = { RecognizesAs };
 
-impl Charge {
-    // Its row of the table. The place is a constant in each line, so that no table is made to look into.
-    fn row(self) -> Row
-        ensures { result ≡ charge_row self }
-    {
-        match self {
-            Charge::Cim => table::row_at(table::CIM),
-            Charge::Cvm => table::row_at(table::CVM),
-            Charge::Cmp => table::row_at(table::CMP),
-            Charge::Crm => table::row_at(table::CRM),
-            Charge::Ccs => table::row_at(table::CCS),
-            Charge::Cst => table::row_at(table::CST),
-            Charge::Cem => table::row_at(table::CEM),
+    fn try_from(pf: u8) -> Result<Message, Refusal> {
+        match pf {
+            0x26 => Ok(Message::Charge(Charge::Cim)),
+            0x01 => Ok(Message::Charge(Charge::Cvm)),
+            0x08 => Ok(Message::Charge(Charge::Cmp)),
+            0x0a => Ok(Message::Charge(Charge::Crm)),
+            0x12 => Ok(Message::Charge(Charge::Ccs)),
+            0x16 => Ok(Message::Charge(Charge::Cst)),
+            0x1f => Ok(Message::Charge(Charge::Cem)),
+            0x1b => Ok(Message::Query(Kind::Voltages)),
+            0x1c => Ok(Message::Query(Kind::Temperatures)),
+            _ => Err(Refusal::NotOneOfTheNine),
         }
     }
 }
 
-impl Query {
+impl Charge {
+    // Its row of the table.
+    fn row(self) -> Row
+        ensures { result ≡ charge_row self }
+    {
+        match self {
+            Charge::Cim => table::CIM,
+            Charge::Cvm => table::CVM,
+            Charge::Cmp => table::CMP,
+            Charge::Crm => table::CRM,
+            Charge::Ccs => table::CCS,
+            Charge::Cst => table::CST,
+            Charge::Cem => table::CEM,
+        }
+    }
+}
+
+impl Kind {
     fn row(self) -> Row
         ensures { result ≡ query_row self }
     {
         match self {
-            Query::Acv => table::row_at(table::ACV),
-            Query::Act => table::row_at(table::ACT),
+            Kind::Voltages => table::ACV,
+            Kind::Temperatures => table::ACT,
         }
     }
 }
@@ -94,7 +88,7 @@ impl Message {
     {
         match self {
             Message::Charge(c) => c.row(),
-            Message::Query(q) => q.row(),
+            Message::Query(k) => k.row(),
         }
     }
 

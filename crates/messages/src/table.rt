@@ -1,10 +1,10 @@
-// The one table of message rows (01, "Identifier and message numbers"), and the place of each message in it.
+// The one table of message rows (01, "Identifier and message numbers"), a row a message by its name.
 ghost use Rattle.std.specs.Prelude.{◌≡◌};
-ghost use Rattle.messages.specs.Table.{pf_of, priority_of, length_of, broadcast_ps, row_at};
+ghost use Rattle.messages.specs.Table.{pf_of, priority_of, length_of, broadcast_ps};
 
 // A message: PF, priority, length (of a received one the least), and the PS of a broadcast (0 where PS is the target).
 // One line a message is what makes the table one to read, so a row has places and not names; the methods name them.
-#[derive(Clone, Copy)]
+#[derive(Clone, Copy, Debug, PartialEq, Eq)]
 pub struct Row(pub u8, pub u8, pub u8, pub u8);
 
 impl Row {
@@ -35,98 +35,59 @@ impl Row {
     }
 }
 
-// How many rows the table has.
-pub const COUNT: usize = 26;
+// Station to us: PF and least length; the priority is ignored, and PS is our address.
+pub const CIM: Row = Row(0x26, 0, 3, 0);
 
-pub const ROWS: [Row; COUNT] = [
-    Row(0x26, 0, 3, 0), // CIM, from a station
-    Row(0x01, 0, 1, 0), // CVM
-    Row(0x08, 0, 8, 0), // CMP
-    Row(0x0a, 0, 1, 0), // CRM
-    Row(0x12, 0, 5, 0), // CCS
-    Row(0x16, 0, 3, 0), // CST
-    Row(0x1f, 0, 3, 0), // CEM
-    Row(0x1b, 0, 8, 0), // ACV, from any node
-    Row(0x1c, 0, 8, 0), // ACT
-    Row(0x27, 6, 8, 0), // EIM, to the station
-    Row(0x02, 7, 8, 0), // EVM
-    Row(0x06, 7, 8, 0), // ECP
-    Row(0x09, 4, 8, 0), // ERM
-    Row(0x10, 6, 8, 0), // ECR
-    Row(0x11, 7, 8, 0), // ECS
-    Row(0x13, 6, 8, 0), // ESM
-    Row(0x15, 4, 8, 0), // EST
-    Row(0x1a, 6, 8, 0), // EDM
-    Row(0x1e, 2, 8, 0), // EEM
-    Row(0xfa, 7, 8, 0x20), // PS, broadcast
-    Row(0xfa, 7, 8, 0x21), // CVS
-    Row(0xfa, 7, 8, 0x22), // CTS
-    Row(0xfa, 7, 8, 0x23), // FWS
-    Row(0xfa, 7, 8, 0x27), // EC
-    Row(0x31, 7, 8, 0), // cell voltages, first group
-    Row(0x81, 7, 8, 0), // cell temperatures, first group
-];
+pub const CVM: Row = Row(0x01, 0, 1, 0);
 
-// The places of the rows in the table.
-pub const CIM: usize = 0;
+pub const CMP: Row = Row(0x08, 0, 8, 0);
 
-pub const CVM: usize = 1;
+pub const CRM: Row = Row(0x0a, 0, 1, 0);
 
-pub const CMP: usize = 2;
+pub const CCS: Row = Row(0x12, 0, 5, 0);
 
-pub const CRM: usize = 3;
+pub const CST: Row = Row(0x16, 0, 3, 0);
 
-pub const CCS: usize = 4;
+pub const CEM: Row = Row(0x1f, 0, 3, 0);
 
-pub const CST: usize = 5;
+// Any node to us.
+pub const ACV: Row = Row(0x1b, 0, 8, 0);
 
-pub const CEM: usize = 6;
+pub const ACT: Row = Row(0x1c, 0, 8, 0);
 
-pub const ACV: usize = 7;
+// Us to the station: PF and priority, with 8 data bytes as every frame that we send has; PS is the station.
+pub const EIM: Row = Row(0x27, 6, 8, 0);
 
-pub const ACT: usize = 8;
+pub const EVM: Row = Row(0x02, 7, 8, 0);
 
-pub const EIM: usize = 9;
+pub const ECP: Row = Row(0x06, 7, 8, 0);
 
-pub const EVM: usize = 10;
+pub const ERM: Row = Row(0x09, 4, 8, 0);
 
-pub const ECP: usize = 11;
+pub const ECR: Row = Row(0x10, 6, 8, 0);
 
-pub const ERM: usize = 12;
+pub const ECS: Row = Row(0x11, 7, 8, 0);
 
-pub const ECR: usize = 13;
+pub const ESM: Row = Row(0x13, 6, 8, 0);
 
-pub const ECS: usize = 14;
+pub const EST: Row = Row(0x15, 4, 8, 0);
 
-pub const ESM: usize = 15;
+pub const EDM: Row = Row(0x1a, 6, 8, 0);
 
-pub const EST: usize = 16;
+pub const EEM: Row = Row(0x1e, 2, 8, 0);
 
-pub const EDM: usize = 17;
+// Broadcasts: PF FA, priority 7, and PS.
+pub const PS: Row = Row(0xfa, 7, 8, 0x20);
 
-pub const EEM: usize = 18;
+pub const CVS: Row = Row(0xfa, 7, 8, 0x21);
 
-pub const PS: usize = 19;
+pub const CTS: Row = Row(0xfa, 7, 8, 0x22);
 
-pub const CVS: usize = 20;
+pub const FWS: Row = Row(0xfa, 7, 8, 0x23);
 
-pub const CTS: usize = 21;
+pub const EC: Row = Row(0xfa, 7, 8, 0x27);
 
-pub const FWS: usize = 22;
+// The first groups of the two kinds of cell answer.
+pub const VOLTAGES: Row = Row(0x31, 7, 8, 0);
 
-pub const EC: usize = 23;
-
-pub const VOLTAGES: usize = 24;
-
-pub const TEMPERATURES: usize = 25;
-
-// The row at a place: the table is the paper's, row by row. Past it stands a row of zeros, which no message has.
-pub fn row_at(place: usize) -> Row
-    ensures { result ≡ row_at place }
-{
-    if place < COUNT {
-        ROWS[place]
-    } else {
-        Row(0, 0, 0, 0)
-    }
-}
+pub const TEMPERATURES: Row = Row(0x81, 7, 8, 0);

@@ -1,4 +1,5 @@
 -- Laws of the settings' definitions that the proofs cite. Assumes nothing.
+use Rattle.std.proofs.Common.{Result, Ok, Err}
 use Prim.Native.Nat.{ℕ, ◌+◌, ◌≤◌, ◌<◌}
 use native.Mathlib.Omega.{arith}
 use native.Mathlib.Nat.{eq-zero-or-pos}
@@ -15,13 +16,14 @@ use Rattle.buffers.specs.InnerLaid.{Laid}
 use Rattle.buffers.proofs.Laws.{laid_start}
 use Rattle.settings.specs.declared.Settings.{Settings}
 use Rattle.settings.specs.declared.Stations.{Stations}
-use Rattle.settings.specs.declared.SettingsRead.{SettingsRead}
-use Rattle.settings.specs.declared.SettingsRead.TheVariants.{Read, Refused}
+use Rattle.numbers.specs.declared.Refusal.{Refusal}
+use Rattle.numbers.specs.declared.Refusal.TheVariants.{Layout, SettingOutOfRange}
+use Rattle.numbers.specs.Numbers.{answered}
 use Rattle.settings.specs.Range.{last_address, least_stations, most_stations, within, distinct, each_good}
 use Rattle.settings.specs.Range.{station_list, good_stations, limits_in_range, in_range}
 use Rattle.settings.specs.Record.{field, version_list, record_of}
-use Rattle.settings.specs.Read.{head_at, layout_of, settings_of, record_number, answer_number, read_of}
-use Rattle.settings.specs.Write.{Wrote, write_number, written_of, buffer_after}
+use Rattle.settings.specs.Read.{head_at, layout_of, settings_of, record_number, read_of}
+use Rattle.settings.specs.Write.{Written, Wrote, write_number, written_of, buffer_after}
 use Rattle.buffers.proofs.Tests.{and_left, and_right}
 
 -- ---- ranges
@@ -126,22 +128,22 @@ module _ (s : List ℕ) (n : ℕ) (count : n ≡ word_at s 25) where
       let w : within least_stations most_stations (word_at s 25) ≡ true = rw (← count) t in rw w (cc)
 
 -- what reading answers, in each of the three cases: the number, and the answer itself
-abbrev pub Says : List ℕ → SettingsRead → Type 0
-Says s r = (answer_number r ≡ record_number s) × (r ≡ read_of s)
+abbrev pub Says : List ℕ → Result Settings Refusal → Type 0
+Says s r = (answered r ≡ record_number s) × (r ≡ read_of s)
 
 module _ (s : List ℕ) (l : Bool) (layout : l ≡ layout_of s) where
-  pub read_1 : l ≡ false → Says s (Refused 1)
+  pub read_1 : l ≡ false → Says s (Err Layout)
   unfolding record_number read_of
   read_1 e = (simp (sym layout ∙ e), simp (sym layout ∙ e))
 
   module _ (taken : l ≡ true) (x : Settings) (values : x ≡ settings_of s) (b : Bool) (range : b ≡ in_range x) where
-    pub read_2 : b ≡ false → Says s (Refused 2)
+    pub read_2 : b ≡ false → Says s (Err SettingOutOfRange)
     unfolding record_number read_of
     read_2 e =
         let told = sym (ap in_range values) ∙ (sym range ∙ e) in
         (simp (sym layout ∙ taken, told), simp (sym layout ∙ taken, told))
 
-    pub read_0 : b ≡ true → Says s (Read x)
+    pub read_0 : b ≡ true → Says s (Ok x)
     unfolding record_number read_of
     read_0 e =
         let told = sym (ap in_range values) ∙ (sym range ∙ e) in

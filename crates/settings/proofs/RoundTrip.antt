@@ -1,5 +1,6 @@
 -- The two round trips of a settings record: reading what was written gives the settings back, and writing what was read
 -- gives the bytes back. Assumes nothing.
+use Rattle.std.proofs.Common.{Ok, Err}
 use Prim.Native.Nat.{ℕ, zero, suc, ◌+◌, ◌*◌, ◌%◌, ◌/◌, ◌≤◌}
 use native.Mathlib.Nat.{add-zero}
 use native.Mathlib.Numerals.{add-one}
@@ -14,13 +15,12 @@ use borrow.Author.Tests.{eqb-true}
 use Rattle.buffers.specs.Words.{word_bytes, word_at}
 use Rattle.settings.specs.declared.Settings.{Settings}
 use Rattle.settings.specs.declared.Stations.{Stations}
-use Rattle.settings.specs.declared.Written.{Written}
-use Rattle.settings.specs.declared.SettingsRead.TheVariants.{Read, Refused}
+use Rattle.numbers.specs.declared.Refusal.TheVariants.{Layout, SettingOutOfRange}
 use Rattle.settings.specs.Range.{least_stations, most_stations, within, in_range, good_stations, station_list}
 use Rattle.settings.specs.Record.{field, version_list, record_of}
 use Rattle.settings.specs.Read.{head_at, layout_of, station_at, stations_at, versions_at, limits_of, settings_of, read_of}
 use Rattle.settings.specs.Tidy.{with_stations, tidy, tidy_stations, Bytes}
-use Rattle.settings.specs.Write.{Wrote, write_number, written_of, buffer_after}
+use Rattle.settings.specs.Write.{Written, Wrote, write_number, written_of, buffer_after}
 use Rattle.buffers.proofs.Tests.{and_left, and_right}
 use Rattle.settings.proofs.Laws.{range_some, range_four, within_least, within_most, read_0}
 
@@ -109,7 +109,7 @@ unfolding in_range good_stations
 tidy_range x e = rw (tidy_list x.stations (range_some x e) (range_four x e)) e
 
 -- reading what was written gives the settings back
-pub read_written : (x : Settings) → in_range x ≡ true → read_of (record_of x) ≡ Read (tidy x)
+pub read_written : (x : Settings) → in_range x ≡ true → read_of (record_of x) ≡ Ok (tidy x)
 unfolding of
 read_written x e =
     let b = back_values x x.stations.count (range_some x e) (range_four x e) in
@@ -122,7 +122,7 @@ taken false short e = absurd (omega (arith, e))
 
 -- and so does reading the bytes that a taken write left at the buffer's start
 pub read_after_write : (x : Settings) (old new : List ℕ) (r : Written) → Wrote x old new r → r.number ≡ 0
-    → read_of (take r.bytes new) ≡ Read (tidy x)
+    → read_of (take r.bytes new) ≡ Ok (tidy x)
 unfolding written_of buffer_after write_number
 read_after_write x old new r w z =
     let k : write_number x old ≡ 0 = sym (ap (λ (a : Written). a.number) w.answer) ∙ z in
@@ -255,7 +255,7 @@ record Taken (l b : Bool) (x y : Settings) : Type 0 where
   range : b ≡ true
   values : y ≡ x
 
-taken_read : (l b : Bool) (x y : Settings) → cond l (cond b (Read y) (Refused 2)) (Refused 1) ≡ Read x → Taken l b x y
+taken_read : (l b : Bool) (x y : Settings) → cond l (cond b (Ok y) (Err SettingOutOfRange)) (Err Layout) ≡ Ok x → Taken l b x y
 taken_read true true x y e = record { layout = refl; range = refl; values = cc }
 taken_read true false x y e = let z : ◌≡◌ {A = ℕ} 0 1 = cc in absurd (omega arith)
 taken_read false b x y e = let z : ◌≡◌ {A = ℕ} 0 1 = cc in absurd (omega arith)
@@ -275,7 +275,7 @@ tidy_values s =
       twice (ltb 3 n) (get_or s 30 0),
     )
 
-module _ (s : List ℕ) (x : Settings) (e : read_of s ≡ Read x) where
+module _ (s : List ℕ) (x : Settings) (e : read_of s ≡ Ok x) where
   read_taken : Taken (layout_of s) (in_range (settings_of s)) x (settings_of s)
   unfolding read_of
   read_taken = taken_read (layout_of s) (in_range (settings_of s)) x (settings_of s) e

@@ -1,13 +1,13 @@
 -- A settings record read (01, "Settings record", numbers 1 and 2). Tags 1 to 5 have fixed lengths, so they stand at 0,
 -- 4, 9, 14 and 19; tag 6 stands at 24 and has n stations, so tag 7 stands at 27 + n and the whole is 35 + n bytes long.
-use Rattle.std.specs.Prelude.{ℕ, ◌+◌, Bool, cond, ◌&&◌, List, eqb, ltb, length, get_or}
+use Rattle.std.specs.Prelude.{ℕ, ◌+◌, Bool, cond, ◌&&◌, List, eqb, ltb, length, get_or, Result, Ok, Err}
+use Rattle.numbers.specs.declared.Refusal.{Refusal}
+use Rattle.numbers.specs.declared.Refusal.TheVariants.{Layout, SettingOutOfRange}
 use Rattle.buffers.specs.Words.{word_at}
 use Rattle.settings.specs.declared.Settings.{Settings}
 use Rattle.settings.specs.declared.Limits.{Limits}
 use Rattle.settings.specs.declared.Stations.{Stations}
 use Rattle.settings.specs.declared.Versions.{Versions}
-use Rattle.settings.specs.declared.SettingsRead.{SettingsRead}
-use Rattle.settings.specs.declared.SettingsRead.TheVariants.{Read, Refused}
 use Rattle.settings.specs.Range.{least_stations, most_stations, within, in_range}
 
 -- a field's one-byte tag and two-byte length stand at a place
@@ -77,11 +77,6 @@ settings_of s =
 unfoldable pub record_number : List ℕ → ℕ
 record_number s = cond (layout_of s) (cond (in_range (settings_of s)) 0 2) 1
 
--- the paper's number for each case of the answer
-abbrev pub answer_number : SettingsRead → ℕ
-answer_number (Read x) = 0
-answer_number (Refused n) = n
-
--- the answer: the settings, or the number of the refusal
-unfoldable pub read_of : List ℕ → SettingsRead
-read_of s = cond (layout_of s) (cond (in_range (settings_of s)) (Read (settings_of s)) (Refused 2)) (Refused 1)
+-- the answer: the settings, or the refusal
+unfoldable pub read_of : List ℕ → Result Settings Refusal
+read_of s = cond (layout_of s) (cond (in_range (settings_of s)) (Ok (settings_of s)) (Err SettingOutOfRange)) (Err Layout)

@@ -1,10 +1,21 @@
 -- Settings written into a lent buffer (01, "Numbers returned", 2 and 17): the number and the bytes written, and all
 -- that the buffer then holds.
-use Rattle.std.specs.Prelude.{ℕ, ◌≡◌, cond, List, ◌++◌, eqb, ltb, length, drop}
+use Rattle.std.specs.Prelude.{ℕ, ◌≡◌, cond, List, ◌++◌, eqb, ltb, length, drop, Result, Ok, Err}
+use Rattle.numbers.specs.declared.Refusal.{Refusal}
+use Rattle.numbers.specs.Numbers.{number_of}
 use Rattle.settings.specs.declared.Settings.{Settings}
-use Rattle.settings.specs.declared.Written.{Written}
 use Rattle.settings.specs.Range.{in_range}
 use Rattle.settings.specs.Record.{record_of}
+
+-- what a write gives: the number, and the bytes written
+pub record Written : Type 0 where
+  pub number : ℕ
+  pub bytes : ℕ
+
+-- a write's answer: 0 and its bytes where it is taken, and else the refusal's number and no bytes
+abbrev pub written : Result ℕ Refusal → Written
+written (Ok bytes) = record { number = 0; bytes = bytes }
+written (Err refusal) = record { number = number_of refusal; bytes = 0 }
 
 -- first 2, where a value is outside its range (no station or over 4 is 2 here); then 17, where the buffer is shorter
 -- than the record

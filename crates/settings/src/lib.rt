@@ -45,17 +45,3 @@ pub struct Settings {
     pub stations: Stations,
     pub versions: Versions,
 }
-
-// What reading a record gives: the settings, or the number of the refusal.
-#[derive(Clone, Copy)]
-pub enum SettingsRead {
-    Read(Settings),
-    Refused(u8),
-}
-
-// What writing gives: the number, and the bytes written.
-#[derive(Clone, Copy)]
-pub struct Written {
-    pub number: u8,
-    pub bytes: usize,
-}

@@ -1,9 +1,11 @@
 // A settings record read: the whole layout first, then the ranges (01, "Settings record", numbers 1 and 2).
 ghost use Rattle.std.specs.Prelude.{◌≡◌, ◌≤◌};
 ghost use Rattle.settings.specs.Read.{head_at, layout_of, station_at, stations_at, versions_at, limits_of, settings_of};
-ghost use Rattle.settings.specs.Read.{record_number, answer_number, read_of};
+ghost use Rattle.settings.specs.Read.{record_number, read_of};
+ghost use Rattle.numbers.specs.Numbers.{answered};
 
-use crate::{Limits, Settings, SettingsRead, Stations, Versions, range};
+use crate::{Limits, Settings, Stations, Versions, range};
+use numbers::Refusal;
 use units::{HundredthVolts, SentDegrees, TenthAmps, TenthVolts};
 
 // A field's tag and its two-byte length at a place.
@@ -105,20 +107,18 @@ fn values(s: &[u8]) -> Settings
     }
 }
 
-// The settings of a record, or the number of the refusal.
+// The settings of a record, or the refusal.
 #[tactic(auto, unfolding(crate::specs::Read::record_number, crate::specs::Read::read_of))]
-pub fn read_settings(s: &[u8]) -> SettingsRead
-    ensures number { answer_number result ≡ record_number s.now }
+pub fn read_settings(s: &[u8]) -> Result<Settings, Refusal>
+    ensures number { answered result ≡ record_number s.now }
     ensures answer { result ≡ read_of s.now }
 {
-    if layout(s) {
-        let x = values(s);
-        if range::in_range(x) {
-            SettingsRead::Read(x)
-        } else {
-            SettingsRead::Refused(2)
-        }
-    } else {
-        SettingsRead::Refused(1)
+    if !layout(s) {
+        return Err(Refusal::Layout);
     }
+    let x = values(s);
+    if !range::in_range(x) {
+        return Err(Refusal::SettingOutOfRange);
+    }
+    Ok(x)
 }

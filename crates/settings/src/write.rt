@@ -3,9 +3,10 @@ ghost use Rattle.std.specs.Prelude.{◌≡◌, ◌++◌, ◌+◌, ◌≤◌, len
 ghost use Rattle.buffers.specs.InnerLaid.{Laid};
 ghost use Rattle.settings.specs.Record.{field, version_list, record_of};
 ghost use Rattle.settings.specs.Range.{station_list};
-ghost use Rattle.settings.specs.Write.{Wrote};
+ghost use Rattle.settings.specs.Write.{written, Wrote};
 
-use crate::{Settings, Written, range};
+use crate::{Settings, range};
+use numbers::Refusal;
 
 // The bytes of the record up to its stations: tags 1 to 5 whole, and tag 6's tag and length.
 #[tactic(auto, unfolding(crate::specs::Record::record_of))]
@@ -63,26 +64,15 @@ fn lay_record(x: Settings, buf: &mut [u8]) -> usize
     buffers::lay(&e, buf, b)
 }
 
-pub fn write_settings(x: Settings, buf: &mut [u8]) -> Written
-    ensures { Wrote x buf.old buf.new result }
+// The settings as a record from the buffer's start: the bytes written, or the refusal.
+pub fn write_settings(x: Settings, buf: &mut [u8]) -> Result<usize, Refusal>
+    ensures { Wrote x buf.old buf.new (written result) }
 {
-    if range::in_range(x) {
-        let n = x.stations.count as usize;
-        if buf.len() < 35 + n {
-            Written {
-                number: 17,
-                bytes: 0,
-            }
-        } else {
-            Written {
-                number: 0,
-                bytes: lay_record(x, buf),
-            }
-        }
-    } else {
-        Written {
-            number: 2,
-            bytes: 0,
-        }
+    if !range::in_range(x) {
+        return Err(Refusal::SettingOutOfRange);
     }
+    if buf.len() < 35 + x.stations.count as usize {
+        return Err(Refusal::RecordBuffer);
+    }
+    Ok(lay_record(x, buf))
 }
