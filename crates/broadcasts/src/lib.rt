@@ -4,6 +4,7 @@
 
 ghost use Rattle.std.specs.Prelude.{◌≡◌};
 ghost use Rattle.cells.specs.InnerBounds.{BoundedCells};
+ghost use Rattle.broadcasts.specs.Sendings.{in_order};
 ghost use Rattle.broadcasts.specs.Layouts.{status_byte, ps_of, cvs_of, cts_of, fws_of, ec_of, broadcasts_of};
 
 use cells::{Cells, sent};
@@ -53,7 +54,7 @@ fn ps(own: u8, heartbeat: bool, readings: Readings, cells: Cells) -> Frame
         (pack % 256) as u8,
         (pack / 256) as u8,
     ];
-    Frame::new(table::row_at(table::PS), 0, own, bytes)
+    Frame::new(table::PS, 0, own, bytes)
 }
 
 #[tactic(auto, unfolding(crate::specs::Layouts::cvs_of))]
@@ -75,7 +76,7 @@ fn cvs(own: u8, cells: Cells) -> Frame
         (lowest % 256) as u8,
         (lowest / 256) as u8,
     ];
-    Frame::new(table::row_at(table::CVS), 0, own, bytes)
+    Frame::new(table::CVS, 0, own, bytes)
 }
 
 #[tactic(auto, unfolding(crate::specs::Layouts::cts_of))]
@@ -94,7 +95,7 @@ fn cts(own: u8, cells: Cells) -> Frame
         0,
         0,
     ];
-    Frame::new(table::row_at(table::CTS), 0, own, bytes)
+    Frame::new(table::CTS, 0, own, bytes)
 }
 
 #[tactic(auto, unfolding(crate::specs::Layouts::fws_of))]
@@ -113,7 +114,7 @@ fn fws(own: u8, readings: Readings) -> Frame
         0,
         0,
     ];
-    Frame::new(table::row_at(table::FWS), 0, own, bytes)
+    Frame::new(table::FWS, 0, own, bytes)
 }
 
 #[tactic(auto, unfolding(crate::specs::Layouts::ec_of))]
@@ -122,7 +123,7 @@ fn ec(own: u8, versions: Versions) -> Frame
 {
     let v = versions;
     let bytes = [v.first, v.second, v.third, v.fourth, v.fifth, 0, 0, 0];
-    Frame::new(table::row_at(table::EC), 0, own, bytes)
+    Frame::new(table::EC, 0, own, bytes)
 }
 
 impl Broadcasts {
@@ -144,5 +145,11 @@ impl Broadcasts {
             fws: fws(own, readings),
             ec: ec(own, versions),
         }
+    }
+    // As they are sent.
+    pub fn in_order(self) -> [Frame; 5]
+        ensures { result ≡ in_order self }
+    {
+        [self.ps, self.cvs, self.cts, self.fws, self.ec]
     }
 }

@@ -56,6 +56,10 @@ sent_then {m} {n} {old} {mid} {new} {at} {k} {next} {fs} {gs} a b =
     }
 
 module _ {m : ℕ} {old new : List ℕ} {at next : ℕ} {fs : List Frame} (a : Sent m old new at next fs) where
+  -- and then no frame more
+  pub sent_no_more : Sent 0 new new next next []
+  sent_no_more = sent_none new next (omega (arith, a.past, a.laid.room, a.laid.past, laid_length a.laid))
+
   -- a looser bound
   pub sent_most : (n : ℕ) → m ≤ n → Sent n old new at next fs
   sent_most n h = record { count = omega (arith, a.count); past = a.past; laid = a.laid }

@@ -3,14 +3,14 @@
 // data mean.
 #![tactic(auto)]
 
-ghost use Rattle.std.specs.Prelude.{◌≡◌, cond, [], ◌∷◌, ◌+◌, ◌≤◌, length};
+ghost use Rattle.std.specs.Prelude.{◌≡◌, [], ◌∷◌, ◌+◌, ◌*◌, ◌≤◌, length};
 ghost use Rattle.frames.specs.Frame.{record_size, frame_of, frame_record};
 ghost use Rattle.frames.specs.InnerSent.{Sent};
 
 use messages::identifier;
 use messages::table::Row;
 
-#[derive(Clone, Copy)]
+#[derive(Clone, Copy, Default)]
 pub struct Frame {
     pub id: u32,
     pub length: u8,
@@ -68,12 +68,16 @@ impl Frame {
         let r = self.record();
         buffers::lay(&r, buf, at)
     }
+}
 
-    // The same where the frame is due, and nothing where it is not.
-    pub fn send_if(self, due: bool, buf: &mut [u8], at: usize) -> usize
-        requires { at + record_size ≤ length buf.old }
-        ensures { Sent 1 buf.old buf.new at result (cond due (self ∷ []) []) }
-    {
-        if due { self.send(buf, at) } else { at }
+// The frames' records laid one after the other from a place with room for them; the place past them is returned.
+pub fn send_all(frames: &[Frame], buf: &mut [u8], at: usize) -> usize
+    requires { at + record_size * length frames.now ≤ length buf.old }
+    ensures { Sent (length frames.now) buf.old buf.new at result frames.now }
+{
+    let mut next = at;
+    for f in frames {
+        next = f.send(buf, next);
     }
+    next
 }

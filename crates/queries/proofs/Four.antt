@@ -9,7 +9,7 @@ use borrow.Author.Tests.{lt-ltb, le-ltb, le-leb}
 use lib.Dec.{ltb, leb}
 use lib.ListN.{length, take, drop}
 use lib.Seq.{take-nil}
-use Rattle.queries.specs.declared.Kind.{Kind}
+use Rattle.messages.specs.declared.received.Kind.{Kind}
 use Rattle.queries.specs.declared.Query.{Query}
 use Rattle.queries.specs.declared.Queries.{Queries}
 use Rattle.queries.specs.Waiting.{most_waiting, no_query, waiting, queries_of}

@@ -8,8 +8,8 @@ use native.Mathlib.Omega.{arith}
 use borrow.Author.Tests.{le-leb, lt-leb}
 use lib.IntN.{ℤ}
 use Rattle.frames.specs.declared.Frame.{Frame}
-use Rattle.queries.specs.declared.Kind.{Kind}
-use Rattle.queries.specs.declared.Kind.TheVariants.{Voltages, Temperatures}
+use Rattle.messages.specs.declared.received.Kind.{Kind}
+use Rattle.messages.specs.declared.received.Kind.TheVariants.{Voltages, Temperatures}
 use Rattle.queries.specs.declared.Query.{Query}
 use Rattle.queries.specs.Asking.{fresh_query}
 use Rattle.queries.specs.Answering.{per_group, group_frame, table_length, past_end, at_last, next_group, answer_frames}

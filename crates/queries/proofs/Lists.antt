@@ -1,5 +1,7 @@
 -- The waiting queries as lists alone: the places hold any list of up to four, and asking and answering go from list to
 -- list. So a run of calls can be followed on the list. Assumes nothing.
+use Rattle.std.specs.List.{list_any}
+use Rattle.std.proofs.Common.{Option}
 use Prim.Native.Nat.{ℕ, zero, suc, ◌≤◌, ◌<◌}
 use mathlib.Core.Path.{◌≡◌, refl, ◌∙◌, ap}
 use mathlib.Core.Bool.{Bool, true, false, cond}
@@ -10,13 +12,19 @@ use lib.Dec.{leb, eqb}
 use lib.IntN.{ℤ}
 use lib.ListN.{length, take, length-append}
 use lib.Seq.{take-nil}
-use Rattle.queries.specs.declared.Kind.{Kind}
+use Rattle.messages.specs.declared.received.Kind.{Kind}
 use Rattle.queries.specs.declared.Query.{Query}
 use Rattle.queries.specs.declared.Queries.{Queries}
-use Rattle.queries.specs.declared.Answered.{Answered}
 use Rattle.queries.specs.Waiting.{most_waiting, waiting, queries_of}
-use Rattle.queries.specs.Asking.{some_asks, ask_number, fresh_query, queued_of}
+use Rattle.queries.specs.Asking.{same_asked, some_asks, ask_number, fresh_query, queued_of}
+use Rattle.frames.specs.declared.Frame.{Frame}
 use Rattle.queries.specs.Answering.{past_end, at_last, next_group, waiting_after, Answers}
+
+-- the test of one query, asked of a list
+pub some_asks_any : (source : ℕ) (kind : Kind) (l : List Query) → list_any (same_asked source kind) l ≡ some_asks source kind l
+unfolding some_asks
+some_asks_any source kind [] = refl
+some_asks_any source kind (q ∷ qs) = rw (some_asks_any source kind qs)
 
 -- never more than four wait
 four_at_most : (a b c d : Query) (n : ℕ) → length (take n (a ∷ b ∷ c ∷ d ∷ [])) ≤ most_waiting
@@ -84,9 +92,9 @@ later_at_most v t [] = omega arith
 later_at_most v t (q ∷ qs) = shorter q qs (past_end v t q) (at_last v t q)
 
 pub answers_waiting :
-    (q : Queries) (own : ℕ) (v : List ℕ) (t : List ℤ) (r : Answered)
-    → Answers q own v t r
-    → waiting r.queries ≡ waiting_after v t (waiting q)
-answers_waiting q own v t r h =
+    (q : Queries) (own : ℕ) (v : List ℕ) (t : List ℤ) (next : Queries) (due : Option Frame)
+    → Answers q own v t next due
+    → waiting next ≡ waiting_after v t (waiting q)
+answers_waiting q own v t next due h =
     ap waiting h.later
     ∙ waiting_held (waiting_after v t (waiting q)) (omega (arith, later_at_most v t (waiting q), waiting_at_most q))

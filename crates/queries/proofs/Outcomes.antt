@@ -6,18 +6,18 @@ use mathlib.Core.List.{List, [], ◌∷◌, ◌++◌}
 use native.Mathlib.Omega.{arith}
 use borrow.Author.Tests.{le-leb, lt-leb}
 use lib.Dec.{leb}
+use Rattle.std.proofs.Common.{Option, None, Some}
 use lib.IntN.{ℤ}
 use lib.ListN.{length, drop}
 use Rattle.frames.specs.declared.Frame.{Frame}
 use Rattle.cells.specs.Tables.{most_cells, tables_fit}
 use Rattle.cells.proofs.Bounds.{fit}
-use Rattle.queries.specs.declared.Kind.{Kind}
-use Rattle.queries.specs.declared.Kind.TheVariants.{Voltages, Temperatures}
+use Rattle.messages.specs.declared.received.Kind.{Kind}
+use Rattle.messages.specs.declared.received.Kind.TheVariants.{Voltages, Temperatures}
 use Rattle.queries.specs.declared.Query.{Query}
 use Rattle.queries.specs.declared.Queries.{Queries}
-use Rattle.queries.specs.declared.Answered.{Answered}
 use Rattle.queries.specs.Waiting.{most_waiting, waiting, queries_of}
-use Rattle.queries.specs.Asking.{some_asks, ask_number, fresh_query, queued_of}
+use Rattle.queries.specs.Asking.{Queued, some_asks, ask_number, fresh_query, queued_of}
 use Rattle.queries.specs.Answering.{per_group, group_frame, table_length, past_end, at_last, next_group, answer_frames}
 use Rattle.queries.specs.Answering.{waiting_after, Answers}
 use Rattle.queries.proofs.Four.{four_wait, oldest_first}
@@ -109,40 +109,33 @@ unfolding answer_frames
 none_frames own v t l w = rw w
 
 module _ (q : Queries) (own : ℕ) (v : List ℕ) (t : List ℤ) where
-  pub answers_none : q.count ≡ 0 → (r : Answered) → r.queries ≡ queries_of [] → r.due ≡ false → Answers q own v t r
-  answers_none h r e d =
+  pub answers_none : q.count ≡ 0 → (r : Queries) → r ≡ queries_of [] → Answers q own v t r None
+  answers_none h r e =
       let w = none_wait q h in
       record {
         later = e ∙ sym (ap queries_of (none_later v t (waiting q) w));
-        frames = rw d (sym (none_frames own v t (waiting q) w));
+        frames = sym (none_frames own v t (waiting q) w);
       }
 
   module _ (some : 0 < q.count) where
-    pub answers_past :
-        past_end v t q.first ≡ true
-        → (r : Answered)
-        → r.queries ≡ queries_of (drop 1 (waiting q))
-        → r.due ≡ false
-        → Answers q own v t r
-    answers_past h r e d =
+    pub answers_past : past_end v t q.first ≡ true → (r : Queries) → r ≡ queries_of (drop 1 (waiting q))
+        → Answers q own v t r None
+    answers_past h r e =
         let w = oldest q some in
         let l = drop 1 (waiting q) in
         record {
           later = e ∙ sym (ap queries_of (past_later own v t q.first (waiting q) l w h));
-          frames = rw d (sym (past_frames own v t q.first (waiting q) l w h));
+          frames = sym (past_frames own v t q.first (waiting q) l w h);
         }
 
     module _ (h : past_end v t q.first ≡ false) (s : Queries) (g : Frame)
         (i : g ≡ group_frame own v t q.first) where
-      sends : cond true (g ∷ []) [] ≡ answer_frames own v t (waiting q)
+      sends : g ∷ [] ≡ answer_frames own v t (waiting q)
       sends =
           ap (λ (x : Frame). x ∷ []) i
           ∙ sym (group_frames own v t q.first (waiting q) (drop 1 (waiting q)) (oldest q some) h)
 
-      pub answers_last :
-          at_last v t q.first ≡ true
-          → s ≡ queries_of (drop 1 (waiting q))
-          → Answers q own v t (record { queries = s; due = true; frame = g })
+      pub answers_last : at_last v t q.first ≡ true → s ≡ queries_of (drop 1 (waiting q)) → Answers q own v t s (Some g)
       answers_last k e =
           record {
             later =
@@ -152,9 +145,7 @@ module _ (q : Queries) (own : ℕ) (v : List ℕ) (t : List ℤ) where
           }
 
       pub answers_more :
-          at_last v t q.first ≡ false
-          → s ≡ queries_of (next_group q.first ∷ drop 1 (waiting q))
-          → Answers q own v t (record { queries = s; due = true; frame = g })
+          at_last v t q.first ≡ false → s ≡ queries_of (next_group q.first ∷ drop 1 (waiting q)) → Answers q own v t s (Some g)
       answers_more k e =
           record {
             later =

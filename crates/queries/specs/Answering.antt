@@ -1,16 +1,16 @@
 -- What a tick answers (01, "Broadcasts and cell answers"): "the oldest waiting query sends one group, 4 voltages at PF
 -- 31 hex up or 8 temperatures at 81 up, priority 7, to its source".
-use Rattle.std.specs.Prelude.{ℕ, ◌+◌, ◌*◌, ◌≡◌, Bool, cond, List, [], ◌∷◌, leb, ℤ, length}
+use Rattle.std.specs.Prelude.{ℕ, ◌+◌, ◌*◌, ◌≡◌, Bool, cond, List, [], ◌∷◌, leb, ℤ, length, Option}
+use Rattle.std.specs.Option.{option_to_list}
 use Rattle.messages.specs.declared.table.Row.{Row}
 use Rattle.messages.specs.Table.{pf_of, priority_of, length_of, broadcast_ps, VOLTAGES, TEMPERATURES}
 use Rattle.frames.specs.declared.Frame.{Frame}
 use Rattle.frames.specs.Frame.{frame_of}
 use Rattle.cells.specs.Groups.{voltages_per_group, temperatures_per_group, voltage_group, temperature_group}
-use Rattle.queries.specs.declared.Kind.{Kind}
-use Rattle.queries.specs.declared.Kind.TheVariants.{Voltages, Temperatures}
+use Rattle.messages.specs.declared.received.Kind.{Kind}
+use Rattle.messages.specs.declared.received.Kind.TheVariants.{Voltages, Temperatures}
 use Rattle.queries.specs.declared.Query.{Query}
 use Rattle.queries.specs.declared.Queries.{Queries}
-use Rattle.queries.specs.declared.Answered.{Answered}
 use Rattle.queries.specs.Waiting.{waiting, queries_of}
 
 abbrev pub per_group : Kind → ℕ
@@ -66,6 +66,6 @@ waiting_after v t [] = []
 waiting_after v t (q ∷ qs) = cond (past_end v t q) qs (cond (at_last v t q) qs (next_group q ∷ qs))
 
 -- a tick's whole outcome: who waits then, and the frame where one is due
-pub record Answers (q : Queries) (own : ℕ) (v : List ℕ) (t : List ℤ) (r : Answered) : Type 0 where
-  pub later : r.queries ≡ queries_of (waiting_after v t (waiting q))
-  pub frames : cond r.due (r.frame ∷ []) [] ≡ answer_frames own v t (waiting q)
+pub record Answers (q : Queries) (own : ℕ) (v : List ℕ) (t : List ℤ) (next : Queries) (due : Option Frame) : Type 0 where
+  pub later : next ≡ queries_of (waiting_after v t (waiting q))
+  pub frames : option_to_list due ≡ answer_frames own v t (waiting q)

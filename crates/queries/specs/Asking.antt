@@ -1,10 +1,11 @@
 -- A query that arrives (01, "Numbers returned", 12 and 13; "Checks run in numeric order within a call").
-use Rattle.std.specs.Prelude.{ℕ, Bool, true, false, cond, ◌&&◌, ◌||◌, List, [], ◌∷◌, ◌++◌, eqb, leb, length}
-use Rattle.queries.specs.declared.Kind.{Kind}
-use Rattle.queries.specs.declared.Kind.TheVariants.{Voltages, Temperatures}
+use Rattle.std.specs.Prelude.{ℕ, Bool, true, false, cond, ◌&&◌, ◌||◌, List, [], ◌∷◌, ◌++◌, eqb, leb, length, Result}
+use Rattle.numbers.specs.declared.Refusal.{Refusal}
+use Rattle.numbers.specs.Numbers.{answered}
+use Rattle.messages.specs.declared.received.Kind.{Kind}
+use Rattle.messages.specs.declared.received.Kind.TheVariants.{Voltages, Temperatures}
 use Rattle.queries.specs.declared.Query.{Query}
 use Rattle.queries.specs.declared.Queries.{Queries}
-use Rattle.queries.specs.declared.Queued.{Queued}
 use Rattle.queries.specs.Waiting.{most_waiting, waiting, queries_of}
 
 abbrev pub same_kind : Kind → Kind → Bool
@@ -28,6 +29,15 @@ ask_number source kind qs = cond (some_asks source kind qs) 12 (cond (leb most_w
 -- a query that is taken waits behind the others, for its first group
 abbrev pub fresh_query : ℕ → Kind → Query
 fresh_query source kind = record { source = source; kind = kind; group = 0 }
+
+-- what asking gives: the number, and the queries that wait then
+pub record Queued : Type 0 where
+  pub number : ℕ
+  pub queries : Queries
+
+-- an answer by its number, with the queries that it leaves
+abbrev pub queued : Result (Unit {0}) Refusal → Queries → Queued
+queued answer q = record { number = answered answer; queries = q }
 
 -- "A refusal alters nothing"
 unfoldable pub queued_of : Queries → ℕ → Kind → Queued

@@ -1,7 +1,7 @@
 -- The waiting queries (01, "Broadcasts and cell answers") as a list, the oldest first, and the four places that hold
 -- it.
 use Rattle.std.specs.Prelude.{ℕ, List, [], ◌∷◌, length, get_or, take}
-use Rattle.queries.specs.declared.Kind.TheVariants.{Voltages}
+use Rattle.messages.specs.declared.received.Kind.TheVariants.{Voltages}
 use Rattle.queries.specs.declared.Query.{Query}
 use Rattle.queries.specs.declared.Queries.{Queries}
 

@@ -1,13 +1,14 @@
 // What the oldest query is answered at a tick (01, "Broadcasts and cell answers"): one group of its table, or nothing
 // where its next group begins past the table, which may be shorter than it was a tick ago.
-ghost use Rattle.std.specs.Prelude.{◌≡◌, true, false, ◌+◌, ◌*◌, ◌≤◌, ◌<◌};
+ghost use Rattle.std.specs.Prelude.{◌≡◌, true, ◌+◌, ◌*◌, ◌≤◌, ◌<◌};
 ghost use Rattle.messages.specs.Table.{pf_of};
 ghost use Rattle.cells.specs.Tables.{most_cells, tables_fit};
 ghost use Rattle.queries.specs.Answering.{per_group, row_after, group_row, group_frame, Answers};
 
-use crate::{Answered, Kind, Queries, Query};
+use crate::{Queries, Query};
 use cells::groups;
 use frames::Frame;
+use messages::received::Kind;
 use messages::table;
 use messages::table::Row;
 
@@ -36,8 +37,8 @@ fn row_of(kind: Kind, group: u8) -> Row
     ensures { result ≡ group_row kind group }
 {
     match kind {
-        Kind::Voltages => row_after(table::row_at(table::VOLTAGES), group),
-        Kind::Temperatures => row_after(table::row_at(table::TEMPERATURES), group),
+        Kind::Voltages => row_after(table::VOLTAGES, group),
+        Kind::Temperatures => row_after(table::TEMPERATURES, group),
     }
 }
 
@@ -54,49 +55,29 @@ fn group_frame(q: Query, own: u8, v: &[u16], t: &[i16]) -> Frame
     }
 }
 
-// A tick that answers nothing.
-fn silent(queries: Queries) -> Answered
-    ensures { (result.queries ≡ queries) × (result.due ≡ false) }
-{
-    Answered {
-        queries,
-        due: false,
-        frame: Frame {
-            id: 0,
-            length: 0,
-            bytes: [0; Frame::DATA],
-        },
-    }
-}
-
 impl Queries {
-    // One tick, with tables of which 14 was not said.
-    pub fn answer(self, own: u8, v: &[u16], t: &[i16]) -> Answered
+    // One tick, with tables of which 14 was not said: the frame, where one is due.
+    pub fn answer(&mut self, own: u8, v: &[u16], t: &[i16]) -> Option<Frame>
         requires { tables_fit v.now t.now ≡ true }
-        ensures { Answers self own v.now t.now result }
+        ensures { Answers self.old own v.now t.now self.new result }
     {
         if self.count == 0 {
-            return silent(Queries::none());
+            *self = Queries::none();
+            return None;
         }
         let oldest = self.first;
-        let kind = oldest.kind;
         let group = oldest.group as usize;
         let n = v.len();
-        if n <= cells_before(kind, group) {
-            return silent(self.left());
+        if n <= cells_before(oldest.kind, group) {
+            *self = self.left();
+            return None;
         }
         let frame = group_frame(oldest, own, v, t);
-        if n <= cells_before(kind, group + 1) {
-            return Answered {
-                queries: self.left(),
-                due: true,
-                frame,
-            };
-        }
-        Answered {
-            queries: self.moved(),
-            due: true,
-            frame,
-        }
+        *self = if n <= cells_before(oldest.kind, group + 1) {
+            self.left()
+        } else {
+            self.moved()
+        };
+        Some(frame)
     }
 }

@@ -1,71 +1,57 @@
 // A query is taken, or refused by its number (01, "Numbers returned", 12 and 13).
-ghost use Rattle.std.specs.Prelude.{◌≡◌};
+ghost use Rattle.std.specs.Prelude.{◌≡◌, take};
+ghost use Rattle.std.specs.List.{list_any};
 ghost use Rattle.queries.specs.Waiting.{waiting};
-ghost use Rattle.queries.specs.Asking.{same_kind, same_asked, some_asks, queued_of};
+ghost use Rattle.queries.specs.Asking.{same_asked, some_asks, queued, queued_of};
 
-use crate::{Kind, Queries, Query, Queued, places};
+use crate::{Queries, Query, places};
+use messages::received::Kind;
+use numbers::Refusal;
 
-fn same_kind(a: Kind, b: Kind) -> bool
-    ensures { result ≡ same_kind a b }
-{
-    match a {
-        Kind::Voltages => match b {
-            Kind::Voltages => true,
-            Kind::Temperatures => false,
-        },
-        Kind::Temperatures => match b {
-            Kind::Voltages => false,
-            Kind::Temperatures => true,
-        },
+impl Query {
+    // It has this source and kind.
+    fn asks(self, source: u8, kind: Kind) -> bool
+        ensures { result ≡ same_asked source kind self }
+    {
+        (self.source == source) & (self.kind == kind)
     }
 }
 
-fn same_asked(q: Query, source: u8, kind: Kind) -> bool
-    ensures { result ≡ same_asked source kind q }
+// One of the first `count` queries has this source and kind.
+fn any_asks(queries: &[Query], count: u8, source: u8, kind: Kind) -> bool
+    ensures { result ≡ list_any (same_asked source kind) (take count queries.now) }
 {
-    let its = q.kind;
-    let same = same_kind(its, kind);
-    (q.source == source) & same
+    queries
+        .iter()
+        .take(count as usize)
+        .any(|q| q.asks(source, kind))
 }
 
 impl Queries {
     // The same source and kind is waiting already.
+    #[tactic(auto, using(crate::proofs::Lists::some_asks_any), unfolding(crate::specs::Waiting::waiting))]
     fn waits(self, source: u8, kind: Kind) -> bool
         ensures { result ≡ some_asks source kind (waiting self) }
     {
-        let n = self.count;
-        let a = same_asked(self.first, source, kind);
-        let b = same_asked(self.second, source, kind);
-        let c = same_asked(self.third, source, kind);
-        let d = same_asked(self.fourth, source, kind);
-        ((0 < n) & a) | (((1 < n) & b) | (((2 < n) & c) | ((3 < n) & d)))
+        let four = [self.first, self.second, self.third, self.fourth];
+        any_asks(&four, self.count, source, kind)
     }
 
     // A query from any source.
-    pub fn ask(self, source: u8, kind: Kind) -> Queued
-        ensures { result ≡ queued_of self source kind }
+    pub fn ask(&mut self, source: u8, kind: Kind) -> Result<(), Refusal>
+        ensures { queued result self.new ≡ queued_of self.old source kind }
     {
         if self.waits(source, kind) {
-            return Queued {
-                number: 12,
-                queries: self,
-            };
+            return Err(Refusal::AlreadyWaiting);
         }
-        if self.count < places::MOST {
-            let fresh = Query {
-                source,
-                kind,
-                group: 0,
-            };
-            Queued {
-                number: 0,
-                queries: self.added(fresh),
-            }
-        } else {
-            Queued {
-                number: 13,
-                queries: self,
-            }
+        if places::MOST <= self.count {
+            return Err(Refusal::FourWaiting);
         }
+        *self = self.added(Query {
+            source,
+            kind,
+            group: 0,
+        });
+        Ok(())
     }
 }

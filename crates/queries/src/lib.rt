@@ -3,18 +3,11 @@
 // reaches. This crate may not know sessions, broadcasts, or the buffer that a frame goes into.
 #![tactic(auto)]
 
-use frames::Frame;
-
 pub mod answering;
 pub mod asking;
 pub mod places;
 
-// What a query asks for.
-#[derive(Clone, Copy)]
-pub enum Kind {
-    Voltages,
-    Temperatures,
-}
+use messages::received::Kind;
 
 // Who asks, for what, and the group that is sent next, from 0.
 #[derive(Clone, Copy)]
@@ -32,19 +25,4 @@ pub struct Queries {
     pub second: Query,
     pub third: Query,
     pub fourth: Query,
-}
-
-// What asking gives: the number, and the queries that wait then.
-#[derive(Clone, Copy)]
-pub struct Queued {
-    pub number: u8,
-    pub queries: Queries,
-}
-
-// What a tick gives: the queries that wait then, and the frame where one is due.
-#[derive(Clone, Copy)]
-pub struct Answered {
-    pub queries: Queries,
-    pub due: bool,
-    pub frame: Frame,
 }

@@ -4,7 +4,8 @@ ghost use Rattle.std.specs.Prelude.{◌≡◌, cond, [], ◌∷◌, ◌++◌, �
 ghost use Rattle.queries.specs.Waiting.{most_waiting, no_query, waiting, queries_of};
 ghost use Rattle.queries.specs.Answering.{next_group};
 
-use crate::{Kind, Queries, Query};
+use crate::{Queries, Query};
+use messages::received::Kind;
 
 // The most queries that wait at a time.
 pub const MOST: u8 = 4;

@@ -1,5 +1,5 @@
 -- The frames of a tick (01, "Session by tick", "Frames"). "Each 5" starts at 0.
-use Rattle.std.specs.Prelude.{ℕ, ◌%◌, Bool, true, false, cond, List, [], ◌∷◌, eqb, take}
+use Rattle.std.specs.Prelude.{ℕ, ◌%◌, Bool, true, false, cond, List, [], ◌∷◌, eqb}
 use Rattle.frames.specs.declared.Frame.{Frame}
 use Rattle.settings.specs.declared.Settings.{Settings}
 use Rattle.readings.specs.declared.Readings.{Readings}
@@ -14,11 +14,6 @@ use Rattle.session_by_tick.specs.declared.Turn.{Turn}
 use Rattle.session_by_tick.specs.declared.Turn.TheVariants.{On, Enter, Farewell, End}
 use Rattle.session_frames.specs.Layouts.{eim_of, evm_of, ecp_of, erm_of, ecr_of, ecs_of, esm_of, est_frame, edm_of, eem_of}
 use Rattle.session.specs.declared.Session.{Session}
-use Rattle.session.specs.declared.ChargeFrames.{ChargeFrames}
-
--- the frames as a list
-abbrev pub frame_list : ChargeFrames → List Frame
-frame_list fs = take fs.count (fs.first ∷ fs.second ∷ fs.third ∷ [])
 
 unfoldable pub is_fifth : ℕ → Bool
 is_fifth count = eqb (count % 5) 0

@@ -10,18 +10,6 @@ use session_by_tick::Turn;
 use session_states::states::State;
 use session_states::{counts, limits};
 
-#[tactic(auto, unfolding(crate::specs::Tick::turned_by))]
-pub fn turned(s: Session, t: Turn) -> Session
-    ensures { result ≡ turned_by s t }
-{
-    match t {
-        Turn::On(st) => s.with_state(st),
-        Turn::Enter(st) => s.begun(st),
-        Turn::Farewell => Session::idle(),
-        Turn::End => Session::idle(),
-    }
-}
-
 // One silent tick more.
 fn silence_next(n: u8) -> u8
     ensures { result ≡ next_up_to silence_limit n }
@@ -33,52 +21,51 @@ fn silence_next(n: u8) -> u8
     }
 }
 
-// A tick of Offered to Charging: silence grows with the count.
-#[tactic(auto, unfolding(crate::specs::Tick::waited_of))]
-fn waited(s: Session, count: u16, state: State) -> Session
-    ensures { result ≡ waited_of s count state }
-{
-    let silent = s.with_silence(silence_next(s.silence));
-    let counted = silent.with_count(count);
-    counted.with_state(state)
-}
+impl Session {
+    // The state change of a tick.
+    #[tactic(auto, unfolding(crate::specs::Tick::turned_by))]
+    pub fn turn(&mut self, t: Turn)
+        ensures { self.new ≡ turned_by self.old t }
+    {
+        match t {
+            Turn::On(state) => self.state = state,
+            Turn::Enter(state) => self.begin(state),
+            Turn::Farewell | Turn::End => *self = Session::idle(),
+        }
+    }
 
-// A tick of Stopping or Error.
-#[tactic(auto, unfolding(crate::specs::Tick::closing_of))]
-fn closing(s: Session, state: State) -> Session
-    ensures { result ≡ closing_of s state }
-{
-    let counted = s.with_count(counts::next_up_to(limits::CLOSING, s.count));
-    counted.with_state(state)
-}
+    // A tick of Offered to Charging: silence grows with the count.
+    #[tactic(auto, unfolding(crate::specs::Tick::waited_of))]
+    fn wait(&mut self, count: u16, state: State)
+        ensures { self.new ≡ waited_of self.old count state }
+    {
+        self.silence = silence_next(self.silence);
+        self.count = count;
+        self.state = state;
+    }
 
-#[tactic(auto, unfolding(crate::specs::Tick::advance_of, crate::specs::Tick::advance_in))]
-pub fn advance(s: Session) -> Session
-    ensures { result ≡ advance_of s }
-{
-    let state = s.state;
-    let fifth = counts::next_each_five(s.count);
-    match state {
-        State::Idle => s,
-        State::Offered => waited(s, fifth, State::Offered),
-        State::Unverified => waited(s, fifth, State::Unverified),
-        State::Parameters => waited(s, counts::next_ecp(s.count), State::Parameters),
-        State::Ready { accepted, maximum } => waited(
-            s,
-            fifth,
-            State::Ready {
-                accepted: accepted,
-                maximum: maximum,
-            },
-        ),
-        State::Charging(p) => waited(s, fifth, State::Charging(p.aged())),
-        State::Stopping { acknowledged, est } => closing(
-            s,
-            State::Stopping {
-                acknowledged: acknowledged,
-                est: est,
-            },
-        ),
-        State::Error => closing(s, State::Error),
+    // A tick of Stopping or Error.
+    #[tactic(auto, unfolding(crate::specs::Tick::closing_of))]
+    fn close(&mut self, state: State)
+        ensures { self.new ≡ closing_of self.old state }
+    {
+        self.count = counts::next_up_to(limits::CLOSING, self.count);
+        self.state = state;
+    }
+
+    // The counts moved on.
+    #[tactic(auto, unfolding(crate::specs::Tick::advance_of, crate::specs::Tick::advance_in))]
+    pub fn advance(&mut self)
+        ensures { self.new ≡ advance_of self.old }
+    {
+        let state = self.state;
+        let fifth = counts::next_each_five(self.count);
+        match state {
+            State::Idle => {}
+            State::Offered | State::Unverified | State::Ready { .. } => self.wait(fifth, state),
+            State::Parameters => self.wait(counts::next_ecp(self.count), state),
+            State::Charging(p) => self.wait(fifth, State::Charging(p.aged())),
+            State::Stopping { .. } | State::Error => self.close(state),
+        }
     }
 }

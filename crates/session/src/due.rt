@@ -1,6 +1,6 @@
 // Which frames a tick sends to the station (01, "Session by tick", "Frames").
-ghost use Rattle.std.specs.Prelude.{◌≡◌, cond, [], ◌∷◌};
-ghost use Rattle.session.specs.Frames.{frame_list, is_fifth, each5, parameters_frames, charging_frames, est_bytes, stopping_frames, frames_in, frames_of};
+ghost use Rattle.std.specs.Prelude.{◌≡◌, ◌≤◌, cond, length, [], ◌∷◌};
+ghost use Rattle.session.specs.Frames.{is_fifth, each5, parameters_frames, charging_frames, est_bytes, stopping_frames, frames_in, frames_of};
 
 use crate::{ChargeFrames, Session};
 use cells::Cells;
@@ -12,57 +12,12 @@ use session_states::phases::Phase;
 use session_states::states::{Est, State};
 use settings::Settings;
 
-fn nothing() -> Frame {
-    Frame {
-        id: 0,
-        length: 0,
-        bytes: [0; Frame::DATA],
-    }
-}
-
-fn none() -> ChargeFrames
-    ensures { frame_list result ≡ [] }
+// The frames of a slice.
+fn list(frames: &[Frame]) -> ChargeFrames
+    requires { length frames.now ≤ 3 }
+    ensures { result.items ≡ frames.now }
 {
-    let f = nothing();
-    ChargeFrames {
-        count: 0,
-        first: f,
-        second: f,
-        third: f,
-    }
-}
-
-fn one(a: Frame) -> ChargeFrames
-    ensures { frame_list result ≡ a ∷ [] }
-{
-    ChargeFrames {
-        count: 1,
-        first: a,
-        second: a,
-        third: a,
-    }
-}
-
-fn two(a: Frame, b: Frame) -> ChargeFrames
-    ensures { frame_list result ≡ a ∷ b ∷ [] }
-{
-    ChargeFrames {
-        count: 2,
-        first: a,
-        second: b,
-        third: b,
-    }
-}
-
-fn three(a: Frame, b: Frame, c: Frame) -> ChargeFrames
-    ensures { frame_list result ≡ a ∷ b ∷ c ∷ [] }
-{
-    ChargeFrames {
-        count: 3,
-        first: a,
-        second: b,
-        third: c,
-    }
+    ChargeFrames::try_from(frames).unwrap()
 }
 
 #[tactic(auto, unfolding(crate::specs::Frames::is_fifth))]
@@ -74,35 +29,39 @@ fn is_fifth(count: u16) -> bool
 
 #[tactic(auto, unfolding(crate::specs::Frames::each5))]
 fn one_each_5(count: u16, a: Frame) -> ChargeFrames
-    ensures { frame_list result ≡ each5 count (a ∷ []) }
+    ensures { result.items ≡ each5 count (a ∷ []) }
 {
-    if is_fifth(count) { one(a) } else { none() }
+    if is_fifth(count) {
+        list(&[a])
+    } else {
+        list(&[])
+    }
 }
 
 #[tactic(auto, unfolding(crate::specs::Frames::parameters_frames))]
 fn parameters(x: Settings, r: Readings, station: u8, count: u16) -> ChargeFrames
-    ensures { frame_list result ≡ parameters_frames x r station count }
+    ensures { result.items ≡ parameters_frames x r station count }
 {
     if count == 0 {
-        one(session_frames::evm(x, station, r, true))
+        list(&[session_frames::evm(x, station, r, true)])
     } else if count % 10 == limits::FIRST_ECP {
-        one(session_frames::ecp(x, station))
+        list(&[session_frames::ecp(x, station)])
     } else {
-        none()
+        list(&[])
     }
 }
 
 #[tactic(auto, unfolding(crate::specs::Frames::charging_frames, crate::specs::Frames::each5))]
 fn charging(x: Settings, r: Readings, c: Cells, station: u8, count: u16, p: Phase) -> ChargeFrames
-    ensures { frame_list result ≡ charging_frames x r c station count p }
+    ensures { result.items ≡ charging_frames x r c station count p }
 {
     let ecr = session_frames::ecr(x, station, c, p);
     if is_fifth(count) {
         let ecs = session_frames::ecs(x, station, r, c);
         let esm = session_frames::esm(x, station, c);
-        three(ecr, ecs, esm)
+        list(&[ecr, ecs, esm])
     } else {
-        one(ecr)
+        list(&[ecr])
     }
 }
 
@@ -126,13 +85,13 @@ fn stopping(
     acknowledged: bool,
     est: Est,
 ) -> ChargeFrames
-    ensures { frame_list result ≡ stopping_frames x r c station count acknowledged est }
+    ensures { result.items ≡ stopping_frames x r c station count acknowledged est }
 {
     let f = est_frame(x, station, acknowledged, est);
     if is_fifth(count) {
-        two(f, session_frames::edm(x, station, r, c))
+        list(&[f, session_frames::edm(x, station, r, c)])
     } else {
-        one(f)
+        list(&[f])
     }
 }
 
@@ -146,10 +105,10 @@ fn in_state(
     count: u16,
     state: State,
 ) -> ChargeFrames
-    ensures { frame_list result ≡ frames_in x r c station count state }
+    ensures { result.items ≡ frames_in x r c station count state }
 {
     match state {
-        State::Idle => none(),
+        State::Idle => list(&[]),
         State::Offered => one_each_5(count, session_frames::eim(x, station, true)),
         State::Unverified => one_each_5(count, session_frames::evm(x, station, r, false)),
         State::Parameters => parameters(x, r, station, count),
@@ -169,10 +128,10 @@ fn in_state(
 // state.
 #[tactic(auto, unfolding(crate::specs::Frames::frames_of))]
 pub fn sent(x: Settings, r: Readings, c: Cells, station: u8, t: Turn, s: Session) -> ChargeFrames
-    ensures { frame_list result ≡ frames_of x r c station t s }
+    ensures { result.items ≡ frames_of x r c station t s }
 {
     if let Turn::Farewell = t {
-        one(session_frames::eim(x, station, false))
+        list(&[session_frames::eim(x, station, false)])
     } else {
         let state = s.state;
         in_state(x, r, c, s.station, s.count, state)

@@ -4,8 +4,10 @@
 #![tactic(auto)]
 
 ghost use Rattle.std.specs.Prelude.{◌≡◌};
+ghost use Rattle.numbers.specs.Numbers.{answered};
 ghost use Rattle.session_by_message.specs.Message.{outcome_number};
 
+use numbers::Refusal;
 use session_states::states::State;
 
 pub mod message;
@@ -31,18 +33,14 @@ pub enum Outcome {
 }
 
 impl Outcome {
-    // 0 is taken, 11 is not taken in this state.
-    pub fn number(self) -> u8
-        ensures { result ≡ outcome_number self }
+    // Taken, or 11: not taken in this state.
+    pub fn answer(self) -> Result<(), Refusal>
+        ensures { answered result ≡ outcome_number self }
     {
         match self {
-            Outcome::Refuse => 11,
-            Outcome::OutOfStep => 11,
-            Outcome::Open => 0,
-            Outcome::Heard => 0,
-            Outcome::Enter(_) => 0,
-            Outcome::Keep(_) => 0,
-            Outcome::End => 0,
+            Outcome::Refuse | Outcome::OutOfStep => Err(Refusal::NotInThisState),
+            Outcome::Open | Outcome::Heard | Outcome::Enter(_) | Outcome::Keep(_) | Outcome::End =>
+                { Ok(()) }
         }
     }
 }

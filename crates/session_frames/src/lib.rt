@@ -35,7 +35,7 @@ pub fn eim(x: Settings, station: u8, on: bool) -> Frame
     let v = x.limits.pack.0;
     let m = mark(on);
     Frame::new(
-        table::row_at(table::EIM),
+        table::EIM,
         station,
         x.own,
         [(v % 256) as u8, (v / 256) as u8, m, 0, 0, 0, 0, 0],
@@ -51,7 +51,7 @@ pub fn evm(x: Settings, station: u8, r: Readings, verified: bool) -> Frame
     let v = r.pack.0;
     let m = mark(verified);
     Frame::new(
-        table::row_at(table::EVM),
+        table::EVM,
         station,
         x.own,
         [
@@ -77,7 +77,7 @@ pub fn ecp(x: Settings, station: u8) -> Frame
     let c = x.limits.pack.0;
     let d = x.limits.temperature.0;
     Frame::new(
-        table::row_at(table::ECP),
+        table::ECP,
         station,
         x.own,
         [
@@ -99,12 +99,7 @@ pub fn erm(x: Settings, station: u8, accepted: bool) -> Frame
     ensures { result ≡ erm_of x station accepted }
 {
     let m = mark(accepted);
-    Frame::new(
-        table::row_at(table::ERM),
-        station,
-        x.own,
-        [m, 0, 0, 0, 0, 0, 0, 0],
-    )
+    Frame::new(table::ERM, station, x.own, [m, 0, 0, 0, 0, 0, 0, 0])
 }
 
 // 3.55 V a cell, in Hold.
@@ -129,7 +124,7 @@ fn ecr_frame(x: Settings, station: u8, volts: TenthVolts, raw: RawAmps, mode: u8
     let v = volts.0;
     let i = raw.0;
     Frame::new(
-        table::row_at(table::ECR),
+        table::ECR,
         station,
         x.own,
         [
@@ -180,7 +175,7 @@ pub fn ecs(x: Settings, station: u8, r: Readings, c: Cells) -> Frame
     let h = c.volts.highest().0;
     let soc = r.soc;
     Frame::new(
-        table::row_at(table::ECS),
+        table::ECS,
         station,
         x.own,
         [
@@ -206,12 +201,7 @@ pub fn esm(x: Settings, station: u8, c: Cells) -> Frame
     let d = sent::index_byte(c.heat.highest_index());
     let e = sent::temperature_byte(c.heat.lowest());
     let f = sent::index_byte(c.heat.lowest_index());
-    Frame::new(
-        table::row_at(table::ESM),
-        station,
-        x.own,
-        [a, b, d, e, f, 0x01, 0, 0],
-    )
+    Frame::new(table::ESM, station, x.own, [a, b, d, e, f, 0x01, 0, 0])
 }
 
 // EST: its two fixed bytes, then AA if acknowledged, else 00.
@@ -221,7 +211,7 @@ pub fn est(x: Settings, station: u8, first: u8, second: u8, acknowledged: bool) 
 {
     let m = mark(acknowledged);
     Frame::new(
-        table::row_at(table::EST),
+        table::EST,
         station,
         x.own,
         [first, second, m, 0, 0, 0, 0, 0],
@@ -239,7 +229,7 @@ pub fn edm(x: Settings, station: u8, r: Readings, c: Cells) -> Frame
     let d = sent::temperature_byte(c.heat.lowest());
     let e = sent::temperature_byte(c.heat.highest());
     Frame::new(
-        table::row_at(table::EDM),
+        table::EDM,
         station,
         x.own,
         [
@@ -261,7 +251,7 @@ pub fn eem(x: Settings, station: u8) -> Frame
     ensures { result ≡ eem_of x station }
 {
     Frame::new(
-        table::row_at(table::EEM),
+        table::EEM,
         station,
         x.own,
         [0x10, 0x00, 0x00, 0, 0, 0, 0, 0],

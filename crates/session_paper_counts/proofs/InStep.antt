@@ -7,7 +7,7 @@ use Rattle.cells.specs.declared.Cells.{Cells}
 use Rattle.charge_messages.specs.declared.ChargeMessage.{ChargeMessage}
 use Rattle.session_by_tick.specs.declared.Turn.{Turn}
 use Rattle.session.specs.declared.Session.{Session}
-use Rattle.session.specs.declared.Taken.{Taken}
+use Rattle.session.specs.Message.{Taken}
 use Rattle.session.specs.Session.{idle_session}
 use Rattle.session.specs.Message.{message_of}
 use Rattle.session.specs.Frames.{frames_of}

@@ -23,7 +23,7 @@ use Rattle.session_by_message.specs.Message.{outcome_of, in_idle, in_offered, in
 use Rattle.session_by_message.specs.Offer.{accepted_of, station_maximum}
 use Rattle.session.specs.declared.Session.{Session}
 use Rattle.session.specs.Session.{with_state}
-use Rattle.session.specs.declared.Taken.{Taken}
+use Rattle.session.specs.Message.{Taken}
 use Rattle.session.specs.Message.{applied_of, session_after, message_of}
 use Rattle.session_paper_counts.specs.Folds.{fold, fold_phase, fold_state, fold_count, folds}
 use Rattle.session_paper_counts.proofs.Fold.{fold_ltb}

@@ -3,12 +3,12 @@
 // cell queries or refusals: its caller shows that the buffer has room and that the cells were accepted.
 #![tactic(auto)]
 
-ghost use Rattle.std.specs.Prelude.{cond, [], ◌∷◌, ◌++◌, ◌+◌, ◌*◌, ◌≤◌, length};
+ghost use Rattle.std.specs.Option.{option_to_list};
+ghost use Rattle.std.specs.Prelude.{◌++◌, ◌+◌, ◌*◌, ◌≤◌, length};
 ghost use Rattle.frames.specs.Frame.{record_size};
 ghost use Rattle.frames.specs.InnerSent.{Sent};
 ghost use Rattle.cells.specs.InnerBounds.{BoundedCells};
-ghost use Rattle.session.specs.Frames.{frame_list};
-ghost use Rattle.broadcasts.specs.Sendings.{in_order, broadcast_at};
+ghost use Rattle.broadcasts.specs.Sendings.{broadcast_at};
 
 use broadcasts::Broadcasts;
 use broadcasts::beat::Beat;
@@ -18,37 +18,6 @@ use readings::Readings;
 use session::ChargeFrames;
 use settings::Settings;
 
-// The session's frames: at most three.
-fn charge(f: ChargeFrames, buf: &mut [u8], at: usize) -> usize
-    requires { at + 3 * record_size ≤ length buf.old }
-    ensures { Sent 3 buf.old buf.new at result (frame_list f) }
-{
-    let n = f.count;
-    let first = f.first;
-    let second = f.second;
-    let third = f.third;
-    let a = first.send_if(0 < n, buf, at);
-    let b = second.send_if(1 < n, buf, a);
-    third.send_if(2 < n, buf, b)
-}
-
-// The five broadcasts, in their order.
-fn five(f: Broadcasts, buf: &mut [u8], at: usize) -> usize
-    requires { at + 5 * record_size ≤ length buf.old }
-    ensures { Sent 5 buf.old buf.new at result (in_order f) }
-{
-    let ps = f.ps;
-    let cvs = f.cvs;
-    let cts = f.cts;
-    let fws = f.fws;
-    let ec = f.ec;
-    let a = ps.send(buf, at);
-    let b = cvs.send(buf, a);
-    let c = cts.send(buf, b);
-    let d = fws.send(buf, c);
-    ec.send(buf, d)
-}
-
 // The broadcasts, where they are due.
 fn broadcast(x: Settings, beat: Beat, r: Readings, c: Cells, buf: &mut [u8], at: usize) -> usize
     requires { (at + 5 * record_size ≤ length buf.old) × BoundedCells c }
@@ -56,9 +25,8 @@ fn broadcast(x: Settings, beat: Beat, r: Readings, c: Cells, buf: &mut [u8], at:
         (broadcast_at beat.tick x.own x.versions r c) }
 {
     if beat.due() {
-        let versions = x.versions;
-        let sending = Broadcasts::new(x.own, versions, beat.heartbeat(), r, c);
-        five(sending, buf, at)
+        let sending = Broadcasts::new(x.own, x.versions, beat.heartbeat(), r, c);
+        frames::send_all(&sending.in_order(), buf, at)
     } else {
         at
     }
@@ -70,17 +38,19 @@ pub fn lay(
     beat: Beat,
     r: Readings,
     c: Cells,
-    charged: ChargeFrames,
-    due: bool,
-    cell: Frame,
+    charged: &ChargeFrames,
+    cell: Option<Frame>,
     buf: &mut [u8],
 ) -> usize
     requires { (9 * record_size ≤ length buf.old) × BoundedCells c }
     ensures { Sent 9 buf.old buf.new 0 result
-        (frame_list charged
-        ++ (broadcast_at beat.tick x.own x.versions r c ++ cond due (cell ∷ []) [])) }
+        (charged.now.items
+        ++ (broadcast_at beat.tick x.own x.versions r c ++ option_to_list cell)) }
 {
-    let a = charge(charged, buf, 0);
+    let a = frames::send_all(charged.as_slice(), buf, 0);
     let b = broadcast(x, beat, r, c, buf, a);
-    cell.send_if(due, buf, b)
+    match cell {
+        Some(frame) => frame.send(buf, b),
+        None => b,
+    }
 }

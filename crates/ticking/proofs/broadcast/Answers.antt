@@ -7,7 +7,7 @@ use Rattle.ticking.proofs.broadcast.Goals as goal
 pub returns-then-due : goal.returns-then-due
 returns-then-due c =
     rw (sym c.due.ensures ∙ c.if-due.true)
-    (sent_eq c.five.ensures (ap in_order (rw c.heartbeat.ensures at c.new-sending.ensures)))
+    (sent_eq (rw c.in_order.ensures at c.send_all.ensures) (ap in_order (rw c.heartbeat.ensures at c.new-sending.ensures)))
 
 pub returns-else-due : goal.returns-else-due
 returns-else-due c = rw (sym c.due.ensures ∙ c.if-due.false) (sent_most (sent_none _ _ (omega arith)) 5 (omega arith))
