@@ -14,7 +14,7 @@ use Rattle.frames.proofs.Laws.{sent_start}
 use Rattle.readings.specs.declared.Readings.{Readings}
 use Rattle.refusals.specs.Tick.{most_frames, tick_number}
 use Rattle.controller.specs.declared.Controller.{Controller}
-use Rattle.controller.specs.Tick.{tick_frames, tick_next, accepted, TickIs}
+use Rattle.controller.specs.Tick.{Ticked, tick_frames, tick_next, accepted, TickIs}
 
 module _ (c : Controller) (r : Readings) (v : List ℕ) (t : List ℤ) (old : List ℕ) where
   -- the three parts, one after the other, are the tick's

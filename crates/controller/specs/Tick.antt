@@ -1,6 +1,8 @@
 -- A tick: 01, "Numbers returned", 14 to 16, and "Broadcasts and cell answers" for the order of its frames. A refused
 -- tick changes neither the controller nor one byte. The tests 14 to 16 stand in `refusals`, `specs/Tick.antt`.
-use Rattle.std.specs.Prelude.{ℕ, ◌*◌, ◌≡◌, Bool, cond, List, ◌++◌, eqb, ℤ, length, drop}
+use Rattle.std.specs.Prelude.{ℕ, ◌*◌, ◌≡◌, Bool, cond, List, ◌++◌, eqb, ℤ, length, drop, Result, Ok, Err}
+use Rattle.numbers.specs.declared.Refusal.{Refusal}
+use Rattle.numbers.specs.Numbers.{number_of}
 use Rattle.frames.specs.declared.Frame.{Frame}
 use Rattle.frames.specs.Frame.{record_size, records_of}
 use Rattle.readings.specs.declared.Readings.{Readings}
@@ -12,8 +14,19 @@ use Rattle.queries.specs.Waiting.{waiting, queries_of}
 use Rattle.queries.specs.Answering.{answer_frames, waiting_after}
 use Rattle.refusals.specs.Tick.{tick_number}
 use Rattle.controller.specs.declared.Controller.{Controller}
-use Rattle.controller.specs.declared.Ticked.{Ticked}
 use Rattle.controller.specs.With.{with_session, with_beat, with_queries}
+
+-- what a tick gives: the number, the bytes written, and the controller as it is then
+pub record Ticked : Type 0 where
+  pub number : ℕ
+  pub bytes : ℕ
+  pub controller : Controller
+
+-- a tick's answer, 0 and its bytes where it is taken, else the refusal's number and no bytes, with the controller that
+-- it leaves
+abbrev pub ticked : Result ℕ Refusal → Controller → Ticked
+ticked (Ok bytes) c = record { number = 0; bytes = bytes; controller = c }
+ticked (Err refusal) c = record { number = number_of refusal; bytes = 0; controller = c }
 
 module _ (c : Controller) (r : Readings) (v : List ℕ) (t : List ℤ) where
   -- charge frames, by the session

@@ -1,48 +1,40 @@
 // A tick (01, "Numbers returned", 14 to 16; "Session by tick"; "Broadcasts and cell answers").
 ghost use Rattle.std.specs.Prelude.{◌≡◌, length};
 ghost use Rattle.refusals.specs.Tick.{tick_number};
-ghost use Rattle.controller.specs.Tick.{TickIs};
+ghost use Rattle.controller.specs.Tick.{ticked, TickIs};
 
-use crate::{Controller, Ticked};
+use crate::Controller;
 use cells::figures;
+use numbers::Refusal;
 use readings::Readings;
 
 impl Controller {
-    // A tick that no number refuses.
-    fn accepted(self, r: Readings, v: &[u16], t: &[i16], buf: &mut [u8]) -> Ticked
+    // A tick that no number refuses: the bytes written.
+    fn accepted(&mut self, r: Readings, v: &[u16], t: &[i16], buf: &mut [u8]) -> usize
         requires { tick_number r v.now t.now (length buf.old) ≡ 0 }
-        ensures { TickIs self r v.now t.now buf.old buf.new result }
+        ensures { TickIs self.old r v.now t.now buf.old buf.new (ticked (Ok result) self.new) }
     {
         let x = self.settings;
-        let session = self.session;
-        let beat = self.beat;
-        let waiting = self.queries;
         let c = figures::summarize(v, t);
-        let s = session.tick(x, r, c);
-        let q = waiting.answer(x.own, v, t);
-        let bytes = ticking::lay(x, beat, r, c, s.frames, q.due, q.frame, buf);
-        let moved = self.with_session(s.session);
-        let later = moved.with_beat(beat.next());
-        Ticked {
-            number: 0,
-            bytes: bytes,
-            controller: later.with_queries(q.queries),
-        }
+        let charged = self.session.tick(x, r, c);
+        let cell = self.queries.answer(x.own, v, t);
+        let bytes = ticking::lay(x, self.beat, r, c, &charged, cell, buf);
+        self.beat = self.beat.next();
+        bytes
     }
 
-    // ENTRY POINT. Any readings, any tables, any buffer, any controller.
-    pub fn tick(self, r: Readings, v: &[u16], t: &[i16], buf: &mut [u8]) -> Ticked
-        ensures { TickIs self r v.now t.now buf.old buf.new result }
+    // ENTRY POINT. Any readings, any tables, any buffer, any controller: the bytes written, or the refusal, and neither
+    // the controller nor the buffer changed.
+    pub fn tick(
+        &mut self,
+        r: Readings,
+        v: &[u16],
+        t: &[i16],
+        buf: &mut [u8],
+    ) -> Result<usize, Refusal>
+        ensures { TickIs self.old r v.now t.now buf.old buf.new (ticked result self.new) }
     {
-        let number = refusals::tick::tick_number(r, v, t, buf.len());
-        if number == 0 {
-            self.accepted(r, v, t, buf)
-        } else {
-            Ticked {
-                number: number,
-                bytes: 0,
-                controller: self,
-            }
-        }
+        refusals::tick::check(r, v, t, buf.len())?;
+        Ok(self.accepted(r, v, t, buf))
     }
 }

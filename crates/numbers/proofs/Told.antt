@@ -1,5 +1,5 @@
 -- A number tells its refusal: no two lines of the table share one, and none has that of a call that is taken.
-use Rattle.std.proofs.Common.{ℕ, ◌≡◌, ◌∙◌, ap, sym, refl, List, [], ◌∷◌, get_or, Result, Ok, Err}
+use Rattle.std.proofs.Common.{ℕ, arith, ◌≡◌, ◌∙◌, ap, sym, refl, List, [], ◌∷◌, get_or}
 use Rattle.numbers.specs.declared.Refusal.{Refusal}
 use Rattle.numbers.specs.declared.Refusal.TheVariants.{Layout, SettingOutOfRange, NotCan, FlagSet, NotForUs, BadSource, NotOneOfTheNine, TooShort, NotTheStation, ContentNotAllowed, NotInThisState, AlreadyWaiting, FourWaiting, Tables, ReadingOutOfRange, TickBuffer, RecordBuffer}
 use Rattle.numbers.specs.Numbers.{number_of}
@@ -50,3 +50,10 @@ back RecordBuffer = refl
 
 pub number_tells : (a b : Refusal) → number_of a ≡ number_of b → a ≡ b
 number_tells a b e = sym (back a) ∙ ap with_number e ∙ back b
+
+-- a refusal's number is not that of a call that is taken
+pub not_taken : (r : Refusal) → number_of r ≡ 0 → ⊥
+not_taken r e =
+    let first : r ≡ Layout = sym (back r) ∙ ap with_number e in
+    let one : number_of r ≡ 1 = ap number_of first in
+    omega (arith, e, one)

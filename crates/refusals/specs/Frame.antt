@@ -1,8 +1,10 @@
 -- The checks of a received frame: 01, "Numbers returned", 3 to 8 and 9. "Checks run in numeric order within a call."
-use Rattle.std.specs.Prelude.{ℕ, Bool, not, cond, ◌||◌, List, eqb, leb, ltb, length}
+use Rattle.std.specs.Prelude.{ℕ, Bool, not, cond, ◌||◌, List, eqb, leb, ltb, length, Result, Ok, Err}
+use Rattle.numbers.specs.declared.Refusal.{Refusal}
+use Rattle.numbers.specs.declared.Refusal.TheVariants.{NotCan, FlagSet, NotForUs, BadSource, TooShort}
+use Rattle.numbers.specs.Numbers.{number_of}
 use Rattle.messages.specs.declared.identifier.Identifier.{Identifier}
-use Rattle.messages.specs.declared.received.Recognized.{Recognized}
-use Rattle.messages.specs.declared.received.Recognized.TheVariants.{As, Refused}
+use Rattle.messages.specs.declared.received.Message.{Message}
 use Rattle.messages.specs.Identifier.{first_broadcast, parts_of}
 use Rattle.messages.specs.Received.{least_length, recognized_of}
 use Rattle.settings.specs.declared.Stations.{Stations}
@@ -27,23 +29,23 @@ unfoldable pub bad_source : ℕ → Identifier → Bool
 bad_source own p = eqb p.source own || (eqb p.source 254 || eqb p.source 255)
 
 -- 8: shorter than its least length; what 7 has refused stays refused
-unfoldable pub long_enough : List ℕ → Recognized → Recognized
-long_enough s (As m) = cond (ltb (length s) (least_length m)) (Refused 8) (As m)
-long_enough s (Refused n) = Refused n
+unfoldable pub long_enough : List ℕ → Result Message Refusal → Result Message Refusal
+long_enough s (Ok m) = cond (ltb (length s) (least_length m)) (Err TooShort) (Ok m)
+long_enough s (Err refusal) = Err refusal
 
--- 3 to 8, in numeric order (7, "PF not one of the nine", is `recognized_of`): the message in a frame, or the number of
--- the first check that refuses it. Of the controller nothing is asked but its own address
-unfoldable pub message_in : ℕ → ℕ → List ℕ → Recognized
+-- 3 to 8, in numeric order (7, "PF not one of the nine", is `recognized_of`): the message in a frame, or the
+-- first check that refuses it. Of the controller nothing is asked but its own address
+unfoldable pub message_in : ℕ → ℕ → List ℕ → Result Message Refusal
 message_in own id s =
-    cond (not_can id s) (Refused 3)
-    (cond (flags_set (parts_of id)) (Refused 4)
-    (cond (not_for_us own (parts_of id)) (Refused 5)
-    (cond (bad_source own (parts_of id)) (Refused 6) (long_enough s (recognized_of (parts_of id).pf)))))
+    cond (not_can id s) (Err NotCan)
+    (cond (flags_set (parts_of id)) (Err FlagSet)
+    (cond (not_for_us own (parts_of id)) (Err NotForUs)
+    (cond (bad_source own (parts_of id)) (Err BadSource) (long_enough s (recognized_of (parts_of id).pf)))))
 
 -- the number by which 3 to 8 refuse a frame, the first of them that does; 0 where none does
-abbrev pub known_number : List ℕ → Recognized → ℕ
-known_number s (As m) = cond (ltb (length s) (least_length m)) 8 0
-known_number s (Refused n) = n
+abbrev pub known_number : List ℕ → Result Message Refusal → ℕ
+known_number s (Ok m) = cond (ltb (length s) (least_length m)) 8 0
+known_number s (Err refusal) = number_of refusal
 
 unfoldable pub frame_number : ℕ → ℕ → List ℕ → ℕ
 frame_number own id s =

@@ -1,11 +1,13 @@
 // The checks of a received frame (01, "Numbers returned"): 3 to 8, which ask for nothing but our own address, and 9.
-ghost use Rattle.std.specs.Prelude.{◌≡◌};
-ghost use Rattle.refusals.specs.Frame.{not_can, flags_set, not_for_us, bad_source, long_enough, message_in, frame_number, listed, may_speak};
-ghost use Rattle.messages.specs.Received.{recognized_number};
+ghost use Rattle.std.specs.Prelude.{◌≡◌, eqb, take};
+ghost use Rattle.std.specs.List.{list_any};
+ghost use Rattle.refusals.specs.Frame.{not_can, flags_set, not_for_us, bad_source, message_in, frame_number, listed, may_speak};
+ghost use Rattle.numbers.specs.Numbers.{answered};
 
+use messages::identifier;
 use messages::identifier::Identifier;
-use messages::received::Recognized;
-use messages::{identifier, received};
+use messages::received::Message;
+use numbers::Refusal;
 use session_states::states::State;
 use settings::Stations;
 
@@ -41,55 +43,46 @@ fn bad_source(own: u8, p: Identifier) -> bool
     (p.source == own) | ((p.source == 254) | (p.source == 255))
 }
 
-// 8: shorter than its least length.
-#[tactic(auto, unfolding(crate::specs::Frame::long_enough))]
-fn long_enough(bytes: &[u8], known: Recognized) -> Recognized
-    ensures { result ≡ long_enough bytes.now known }
-{
-    match known {
-        Recognized::As(m) => {
-            let least = m.least_length();
-            if bytes.len() < least as usize {
-                Recognized::Refused(8)
-            } else {
-                Recognized::As(m)
-            }
-        }
-        Recognized::Refused(n) => Recognized::Refused(n),
-    }
-}
-
-// 3 to 8, in numeric order: the message in a frame, or the number of the first check that refuses it.
-#[tactic(auto, unfolding(crate::specs::Frame::frame_number, crate::specs::Frame::message_in))]
-pub fn message_in(own: u8, id: u32, bytes: &[u8]) -> Recognized
-    ensures number { recognized_number result ≡ frame_number own id bytes.now }
+// 3 to 8, in numeric order: the message in a frame, or the first check that refuses it.
+#[tactic(auto, unfolding(crate::specs::Frame::frame_number, crate::specs::Frame::message_in, crate::specs::Frame::long_enough))]
+pub fn message_in(own: u8, id: u32, bytes: &[u8]) -> Result<Message, Refusal>
+    ensures number { answered result ≡ frame_number own id bytes.now }
     ensures answer { result ≡ message_in own id bytes.now }
 {
     if not_can(id, bytes) {
-        return Recognized::Refused(3);
+        return Err(Refusal::NotCan);
     }
-    let p = Identifier::parts(id);
+    let p = Identifier::from(id);
     if flags_set(p) {
-        return Recognized::Refused(4);
+        return Err(Refusal::FlagSet);
     }
     if not_for_us(own, p) {
-        return Recognized::Refused(5);
+        return Err(Refusal::NotForUs);
     }
     if bad_source(own, p) {
-        return Recognized::Refused(6);
+        return Err(Refusal::BadSource);
     }
-    long_enough(bytes, received::recognize(p))
+    let m = Message::try_from(p.pf)?;
+    if bytes.len() < m.least_length() as usize {
+        return Err(Refusal::TooShort);
+    }
+    Ok(m)
+}
+
+// One of the first `count` addresses is this one.
+fn any_is(addresses: &[u8], count: u16, source: u8) -> bool
+    ensures { result ≡ list_any (eqb source) (take count addresses.now) }
+{
+    addresses.iter().take(count as usize).any(|a| source == *a)
 }
 
 // A station of the list.
-#[tactic(auto, unfolding(crate::specs::Frame::listed))]
+#[tactic(auto, using(crate::proofs::Listed::any_listed), unfolding(crate::specs::Frame::listed))]
 fn is_listed(source: u8, s: Stations) -> bool
     ensures { result ≡ listed source s }
 {
-    let n = s.count;
-    ((0 < n) & (source == s.first))
-        | (((1 < n) & (source == s.second))
-            | (((2 < n) & (source == s.third)) | ((3 < n) & (source == s.fourth))))
+    let four = [s.first, s.second, s.third, s.fourth];
+    any_is(&four, s.count, source)
 }
 
 // 9: in Idle a listed station may speak, else the session's own alone.

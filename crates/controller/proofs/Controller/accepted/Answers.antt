@@ -10,8 +10,8 @@ use Rattle.controller.proofs.Controller.accepted.Goals as goal
 pub summarize-c-requires : goal.summarize-c-requires
 summarize-c-requires c = (fine _ _ _ _ c.requires).fits
 
-pub answer-q-requires : goal.answer-q-requires
-answer-q-requires c = (fine _ _ _ _ c.requires).fits
+pub answer-cell-requires : goal.answer-cell-requires
+answer-cell-requires c = (fine _ _ _ _ c.requires).fits
 
 pub lay-bytes-requires : goal.lay-bytes-requires
 lay-bytes-requires c =
@@ -22,13 +22,5 @@ pub returns : goal.returns
 unfolding charge_frames broadcast_frames cell_frames tick_frames tick_next
 returns c =
     accepted_tick _ _ _ _ _ _ _ _ c.requires
-    (sent_eq c.lay-bytes.ensures (rw (c.tick-s.ensures.sent, c.answer-q.ensures.frames, c.summarize-c.ensures)))
-    (c.with_queries.ensures
-    ∙ rw (
-      c.with_beat-later.ensures,
-      c.next.ensures,
-      c.with_session-moved.ensures,
-      c.tick-s.ensures.next,
-      c.answer-q.ensures.later,
-      c.summarize-c.ensures,
-    ))
+    (sent_eq c.lay-bytes.ensures (rw (c.tick-charged.ensures.sent, c.answer-cell.ensures.frames, c.summarize-c.ensures)))
+    (rw (c.next-self.ensures, c.tick-charged.ensures.next, c.answer-cell.ensures.later, c.summarize-c.ensures))
