@@ -24,7 +24,7 @@ use Rattle.session.specs.Tick.{turned_by, turn_in}
 use Rattle.session_paper_counts.specs.Literal.{counted, literal_in, literal_advance, literal_tick}
 use Rattle.session_paper_counts.specs.Folds.{fold, fold_state, fold_count, folds}
 use Rattle.controller.specs.declared.Controller.{Controller}
-use Rattle.controller.specs.declared.Answer.{Answer}
+use Rattle.controller.specs.Frame.{Answer}
 use Rattle.controller.specs.Start.{fresh_of}
 use Rattle.controller.specs.Frame.{frame_to, session_moved}
 use Rattle.demands.specs.Machine.{Call, Read, Receive, Tick, Write, paper_next}

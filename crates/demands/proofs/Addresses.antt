@@ -1,6 +1,8 @@
 -- In every run each address is a byte: our own by the settings' range, the station's and a query's source as they are
 -- taken from an identifier. Assumes nothing.
 use Prim.Native.Nat.{ℕ, ◌<◌}
+use Rattle.std.proofs.Common.{Result, Ok, Err}
+use Rattle.numbers.specs.declared.Refusal.{Refusal}
 use native.Mathlib.Omega.{arith}
 use mathlib.Core.Path.{◌≡◌, refl, sym, subst}
 use mathlib.Core.Bool.{Bool, true, false, cond, ◌&&◌}
@@ -15,8 +17,6 @@ use Rattle.readings.specs.declared.Readings.{Readings}
 use Rattle.cells.specs.declared.Cells.{Cells}
 use Rattle.cells.specs.Summaries.{cells_of}
 use Rattle.settings.specs.declared.Settings.{Settings}
-use Rattle.settings.specs.declared.SettingsRead.{SettingsRead}
-use Rattle.settings.specs.declared.SettingsRead.TheVariants as read
 use Rattle.settings.specs.Range.{last_address, within, in_range}
 use Rattle.settings.specs.Read.{read_of}
 use Rattle.settings.proofs.RoundTrip.{read_in_range}
@@ -30,7 +30,7 @@ use Rattle.session.specs.declared.Session.{Session}
 use Rattle.session.specs.Message.{session_after, applied_of, message_of}
 use Rattle.session.specs.Tick.{turned_by, turn_in}
 use Rattle.session_paper_counts.specs.Literal.{grown, counted, literal_in, literal_advance, literal_tick}
-use Rattle.queries.specs.declared.Kind.{Kind}
+use Rattle.messages.specs.declared.received.Kind.{Kind}
 use Rattle.queries.specs.declared.Query.{Query}
 use Rattle.queries.specs.declared.Queries.{Queries}
 use Rattle.queries.specs.Waiting.{waiting, queries_of}
@@ -38,9 +38,9 @@ use Rattle.queries.specs.Asking.{ask_number, fresh_query, queued_of}
 use Rattle.queries.specs.Answering.{past_end, at_last, next_group, waiting_after}
 use Rattle.queries.proofs.Lists.{waiting_at_most, waiting_held, asked_waiting, later_at_most}
 use Rattle.controller.specs.declared.Controller.{Controller}
-use Rattle.controller.specs.declared.Answer.{Answer}
+use Rattle.controller.specs.Frame.{Answer}
 use Rattle.controller.specs.Start.{fresh_of, start_with, start_of}
-use Rattle.controller.specs.Frame.{kind_of, frame_to, session_moved, queries_moved}
+use Rattle.controller.specs.Frame.{frame_to, session_moved, queries_moved}
 use Rattle.controller.specs.Tick.{accepted}
 use Rattle.demands.specs.Machine.{Call, Read, Receive, Tick, Write, Box, NoController, Using, paper_next, started, box_after, box_at}
 use Rattle.demands.specs.After.{after}
@@ -134,8 +134,8 @@ charge_bytes c id s a (Took m says may e) h = rw e (message_byte (parts_of id).s
 by_case : (c : Controller) (id : ℕ) (s : List ℕ) → Bytes c → View c.settings.own id s
     → Below (waiting (frame_to c id s).controller.queries)
 unfolding queries_moved session_moved
-by_case c id s b (Refused n h each) = rw (each c refl) b.sources
-by_case c id s b (Asks q h each) = rw (each c refl) (below_asked c.queries (parts_of id).source (kind_of q) (source_byte id) b.sources)
+by_case c id s b (Refused n each) = rw (each c refl) b.sources
+by_case c id s b (Asks q h each) = rw (each c refl) (below_asked c.queries (parts_of id).source q (source_byte id) b.sources)
 by_case c id s b (Charges k h p each) = rw (each c refl) b.sources
 
 frame_bytes_lem : (c : Controller) (id : ℕ) (s : List ℕ) → Bytes c → Bytes (frame_to c id s).controller
@@ -171,10 +171,10 @@ unfoldable pub BytesIn : Box → Type 0
 BytesIn NoController = Unit {0}
 BytesIn (Using c) = Bytes c
 
-start_bytes : (s : List ℕ) (a : SettingsRead) → read_of s ≡ a → (b : Box) → BytesIn b → BytesIn (started (start_with a) b)
+start_bytes : (s : List ℕ) (a : Result Settings Refusal) → read_of s ≡ a → (b : Box) → BytesIn b → BytesIn (started (start_with a) b)
 unfolding started start_with BytesIn
-start_bytes s (read.Read x) e b h = fresh_bytes x (read_in_range s x e)
-start_bytes s (read.Refused n) e b h = h
+start_bytes s (Ok x) e b h = fresh_bytes x (read_in_range s x e)
+start_bytes s (Err n) e b h = h
 
 if_bytes : (b : Bool) (c d : Controller) → Bytes c → Bytes d → Bytes (cond b c d)
 if_bytes true c d h k = h

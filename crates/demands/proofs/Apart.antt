@@ -1,6 +1,8 @@
 -- Demand 3, first half: whatever other addresses send, an open session goes as it would without them, up to its end.
 -- Assumes nothing.
 use Prim.Native.Nat.{ℕ}
+use Rattle.std.proofs.Common.{Result, Ok, Err}
+use Rattle.numbers.specs.declared.Refusal.{Refusal}
 use mathlib.Core.Path.{◌≡◌, refl, ap, sym, subst, ◌∙◌}
 use mathlib.Core.Bool.{Bool, true, false, not, cond, ◌&&◌, false≢true}
 use mathlib.Core.List.{List, [], ◌∷◌, ◌++◌}
@@ -10,8 +12,6 @@ use borrow.Author.Tests.{eq-eqb}
 use Rattle.messages.specs.declared.received.Message.TheVariants as message
 use Rattle.messages.specs.Identifier.{parts_of}
 use Rattle.settings.specs.declared.Settings.{Settings}
-use Rattle.settings.specs.declared.SettingsRead.{SettingsRead}
-use Rattle.settings.specs.declared.SettingsRead.TheVariants as read
 use Rattle.settings.specs.Read.{read_of}
 use Rattle.readings.specs.declared.Readings.{Readings}
 use Rattle.cells.specs.declared.Cells.{Cells}
@@ -27,7 +27,7 @@ use Rattle.session.specs.Message.{session_after, applied_of, message_of}
 use Rattle.session.specs.Tick.{turned_by, turn_in}
 use Rattle.session_paper_counts.specs.Literal.{grown, counted, literal_in, literal_advance, literal_tick}
 use Rattle.controller.specs.declared.Controller.{Controller}
-use Rattle.controller.specs.declared.Answer.{Answer}
+use Rattle.controller.specs.Frame.{Answer}
 use Rattle.session_states.specs.States.{is_idle}
 use Rattle.controller.specs.Frame.{frame_to}
 use Rattle.controller.specs.Tick.{charge_frames}
@@ -108,10 +108,10 @@ module _ (c : Controller) (o : no_session c ≡ false) where
   kept_choice st true d e k = k
   kept_choice st false d e k = λ h. sym e
 
-  kept_read : (a : SettingsRead) → Kept c.session.station (read_into a c).session
+  kept_read : (a : Result Settings Refusal) → Kept c.session.station (read_into a c).session
   unfolding read_into fresh_of is_idle
-  kept_read (read.Read x) h = absurd (false≢true (sym h))
-  kept_read (read.Refused n) h = refl
+  kept_read (Ok x) h = absurd (false≢true (sym h))
+  kept_read (Err n) h = refl
 
   pub kept_call : (e : Call) → Kept c.session.station (after c e).session
   unfolding after paper_next
@@ -146,7 +146,7 @@ module _ (c d : Controller) (a : Alike c d) where
   by_case : (id : ℕ) (l : List ℕ) → View c.settings.own id l
       → AlikeAfter (is_query id) (frame_to c id l) (frame_to d id l)
   unfolding session_moved queries_moved
-  by_case id l (Refused n h each) =
+  by_case id l (Refused n each) =
       rw (each c refl, each d (rw a.settings)) (record { alike = a; number = λ f. refl })
   by_case id l (Asks q h each) =
       rw (each c refl, each d (rw a.settings))
@@ -166,10 +166,10 @@ module _ (c d : Controller) (a : Alike c d) where
   unfolding paper_next
   alike_next r v t = record { settings = a.settings; session = rw (a.settings, a.session) }
 
-  alike_read : (s : SettingsRead) → Alike (read_into s c) (read_into s d)
+  alike_read : (s : Result Settings Refusal) → Alike (read_into s c) (read_into s d)
   unfolding read_into
-  alike_read (read.Read x) = record { settings = refl; session = refl }
-  alike_read (read.Refused n) = a
+  alike_read (Ok x) = record { settings = refl; session = refl }
+  alike_read (Err n) = a
 
   pub alike_call : (e : Call) → Alike (after c e) (after d e)
   unfolding after
@@ -198,10 +198,10 @@ module _ (c d : Controller) (a : Alike c d) where
   same_moments (Read s) = refl
 
 -- ---- a call that does not reach the session leaves it as it was, and is not seen
-unread : (a : SettingsRead) (c : Controller) → is_read a ≡ false → Alike (read_into a c) c
+unread : (a : Result Settings Refusal) (c : Controller) → is_read a ≡ false → Alike (read_into a c) c
 unfolding is_read read_into
-unread (read.Read x) c h = absurd (false≢true (sym h))
-unread (read.Refused n) c h = record { settings = refl; session = refl }
+unread (Ok x) c h = absurd (false≢true (sym h))
+unread (Err n) c h = record { settings = refl; session = refl }
 
 pub unreached : (c : Controller) (e : Call) → no_session c ≡ false → reaches c.session.station e ≡ false
     → Alike (after c e) c

@@ -1,6 +1,8 @@
 -- What begins a charge, and what the last CMP taken has to do with it (specs/Offers.antt): of one call of any
 -- controller, then carried over, with what is known of the last CMP, to the calls that were made. Assumes nothing.
 use Prim.Native.Nat.{ℕ}
+use Rattle.std.proofs.Common.{Result, Ok, Err}
+use Rattle.numbers.specs.declared.Refusal.{Refusal}
 use mathlib.Core.Path.{◌≡◌, refl, sym, ap, subst, ◌∙◌}
 use mathlib.Core.Bool.{Bool, true, false, cond, ◌&&◌, false≢true}
 use mathlib.Core.List.{List, [], ◌∷◌, map}
@@ -8,8 +10,6 @@ use lib.IntN.{ℤ}
 use Rattle.messages.specs.Identifier.{parts_of}
 use Rattle.units.specs.declared.TenthAmps.{TenthAmps}
 use Rattle.settings.specs.declared.Settings.{Settings}
-use Rattle.settings.specs.declared.SettingsRead.{SettingsRead}
-use Rattle.settings.specs.declared.SettingsRead.TheVariants as read
 use Rattle.settings.specs.Read.{read_of}
 use Rattle.readings.specs.declared.Readings.{Readings}
 use Rattle.cells.specs.declared.Cells.{Cells}
@@ -27,7 +27,7 @@ use Rattle.session.specs.declared.Session.{Session}
 use Rattle.session.specs.Message.{applied_of, message_of}
 use Rattle.session_paper_counts.specs.Folds.{fold_state, folds}
 use Rattle.controller.specs.declared.Controller.{Controller}
-use Rattle.controller.specs.declared.Answer.{Answer}
+use Rattle.controller.specs.Frame.{Answer}
 use Rattle.controller.specs.Start.{fresh_of}
 use Rattle.controller.specs.Frame.{session_moved}
 use Rattle.demands.specs.Machine.{Receive, Tick, NoController}
@@ -177,10 +177,10 @@ module _ (c : Controller) (f : is_charging c.session.state ≡ false) where
       either true h = leads_not c.settings r (cells_of v t) _ c.session.state _ f (stops.what_a_tick_does c r v t old h)
       either false h = ap (λ (z : Controller). is_charging z.session.state) (stops.what_a_refused_tick_does c r v t old h) ∙ f
 
-  read_not : (a : SettingsRead) → is_charging (read_into a c).session.state ≡ false
+  read_not : (a : Result Settings Refusal) → is_charging (read_into a c).session.state ≡ false
   unfolding read_into fresh_of is_charging
-  read_not (read.Read x) = refl
-  read_not (read.Refused n) = f
+  read_not (Ok x) = refl
+  read_not (Err n) = f
 
 -- ---- the last CMP, of the calls made: the steps' calls and numbers are the machine's
 through_folds : (l : LastOffer) (xs : List Step) → offer_through l (map code_step xs) ≡ offer_through l xs

@@ -11,7 +11,7 @@ use Rattle.frames.specs.declared.Frame.{Frame}
 use Rattle.frames.specs.Frame.{record_size, records_of}
 use Rattle.readings.specs.declared.Readings.{Readings}
 use Rattle.controller.specs.declared.Controller.{Controller}
-use Rattle.controller.specs.declared.Ticked.{Ticked}
+use Rattle.controller.specs.Tick.{Ticked}
 use Rattle.controller.specs.Tick.{tick_frames, tick_next, accepted, TickIs}
 use Rattle.demands.specs.Machine.{Box, NoController, Using, Gave, paper_next, box_after, seen_of, run, box_at}
 use Rattle.demands.specs.Sent.{frames_written}

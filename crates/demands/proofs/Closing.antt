@@ -1,6 +1,8 @@
 -- "Stopping and Error end to Idle at count 600", whatever anyone sends, and "Stopping EST each tick" (specs/Closing.antt).
 -- No message gives a session in Stopping or in Error more ticks, and each accepted tick takes one. Assumes nothing.
 use Prim.Native.Nat.{ℕ, ◌+◌, ◌-◌, ◌≤◌}
+use Rattle.std.proofs.Common.{Result, Ok, Err}
+use Rattle.numbers.specs.declared.Refusal.{Refusal}
 use native.Mathlib.Omega.{arith}
 use mathlib.Core.Path.{◌≡◌, refl, sym, ap, subst, ◌∙◌}
 use mathlib.Core.Bool.{Bool, true, false, cond, false≢true}
@@ -12,8 +14,6 @@ use Rattle.messages.specs.Identifier.{parts_of, identifier_of}
 use Rattle.messages.specs.Table.{EST}
 use Rattle.frames.specs.declared.Frame.{Frame}
 use Rattle.settings.specs.declared.Settings.{Settings}
-use Rattle.settings.specs.declared.SettingsRead.{SettingsRead}
-use Rattle.settings.specs.declared.SettingsRead.TheVariants as read
 use Rattle.settings.specs.Read.{read_of}
 use Rattle.readings.specs.declared.Readings.{Readings}
 use Rattle.cells.specs.declared.Cells.{Cells}
@@ -41,7 +41,7 @@ use Rattle.session.specs.Tick.{turned_by, turn_in, sent_of}
 use Rattle.session_paper_counts.specs.Folds.{folds}
 use Rattle.session_paper_counts.specs.Literal.{grown, counted, literal_in, literal_advance, literal_tick}
 use Rattle.controller.specs.declared.Controller.{Controller}
-use Rattle.controller.specs.declared.Answer.{Answer}
+use Rattle.controller.specs.Frame.{Answer}
 use Rattle.controller.specs.Start.{fresh_of}
 use Rattle.controller.specs.Frame.{frame_to, session_moved}
 use Rattle.controller.specs.Tick.{charge_frames}
@@ -167,10 +167,10 @@ module _ (c : Controller) (h : is_closing c.session.state ≡ true) where
   tick_either r v t true = tick_closes c.settings r (cells_of v t) c.session h
   tick_either r v t false = Still h (omega arith)
 
-  read_closes : (a : SettingsRead) → Closes 0 c.session (read_into a c).session
+  read_closes : (a : Result Settings Refusal) → Closes 0 c.session (read_into a c).session
   unfolding read_into fresh_of is_idle
-  read_closes (read.Read x) = Over refl
-  read_closes (read.Refused n) = Still h (omega arith)
+  read_closes (Ok x) = Over refl
+  read_closes (Err n) = Still h (omega arith)
 
   call_closes : (e : Call) → Closes (cond (is_accepted_tick e) 1 0) c.session (after c e).session
   unfolding is_accepted_tick after

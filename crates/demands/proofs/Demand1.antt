@@ -2,6 +2,11 @@
 -- buffer as they were, but that an 11 from Offered to Ready, CIM apart, returns the silence count to 0. It follows from
 -- the entry points' promises alone. Assumes nothing.
 use Prim.Native.Nat.{ℕ, ◌<◌}
+use Rattle.numbers.specs.Numbers.{number_of}
+use Rattle.numbers.specs.declared.Refusal.TheVariants.{NotTheStation}
+use Rattle.std.proofs.Common.{Result, Ok, Err}
+use Rattle.numbers.specs.declared.Refusal.{Refusal}
+use Rattle.numbers.specs.Numbers.{answered}
 use native.Mathlib.Omega.{arith}
 use mathlib.Core.Path.{◌≡◌, refl, sym, ap, subst, ◌∙◌}
 use mathlib.Core.Bool.{Bool, true, false, not, cond, ◌&&◌}
@@ -12,21 +17,17 @@ use lib.IntN.{ℤ}
 use lib.ListN.{length}
 use Rattle.messages.specs.declared.received.Charge.{Charge}
 use Rattle.messages.specs.declared.received.Charge.TheVariants as charge
-use Rattle.messages.specs.declared.received.Query.TheVariants as query
+use Rattle.messages.specs.declared.received.Kind.TheVariants as kind
 use Rattle.messages.specs.declared.received.Message.TheVariants as message
-use Rattle.messages.specs.declared.received.Recognized.{Recognized}
-use Rattle.messages.specs.declared.received.Recognized.TheVariants as recognized
 use Rattle.messages.specs.Identifier.{parts_of}
 use Rattle.messages.specs.declared.received.Message.{Message}
 use Rattle.messages.specs.Received.{first_with, recognized_of}
 use Rattle.readings.specs.declared.Readings.{Readings}
 use Rattle.settings.specs.declared.Settings.{Settings}
-use Rattle.settings.specs.declared.Written.{Written}
+use Rattle.settings.specs.Write.{Written}
 use Rattle.settings.specs.Write.{Wrote, written_of, buffer_after, write_number}
 use Rattle.charge_messages.specs.declared.ChargeMessage.{ChargeMessage}
 use Rattle.charge_messages.specs.declared.ChargeMessage.TheVariants.{Cim, Cvm, Cmp, Crm, Ccs, Cst, Cem}
-use Rattle.charge_messages.specs.declared.Content.{Content}
-use Rattle.charge_messages.specs.declared.Content.TheVariants as content
 use Rattle.charge_messages.specs.Content.{content_of}
 use Rattle.session_states.specs.declared.states.State.{State}
 use Rattle.session_states.specs.declared.states.State.TheVariants.{Idle, Offered, Unverified, Parameters, Ready, Charging, Stopping, Error}
@@ -37,16 +38,13 @@ use Rattle.session_by_message.specs.Message.{outcome_number, outcome_of, in_idle
 use Rattle.session.specs.declared.Session.{Session}
 use Rattle.session.specs.Session.{with_silence}
 use Rattle.session.specs.Message.{session_after, applied_of, message_of}
-use Rattle.queries.specs.declared.Kind.{Kind}
+use Rattle.messages.specs.declared.received.Kind.{Kind}
 use Rattle.queries.specs.Waiting.{waiting, most_waiting}
 use Rattle.queries.specs.Asking.{some_asks, ask_number, queued_of}
 use Rattle.controller.specs.declared.Controller.{Controller}
-use Rattle.controller.specs.declared.Answer.{Answer}
-use Rattle.controller.specs.declared.Start.{Start}
-use Rattle.controller.specs.declared.Start.TheVariants.{Made, Refused}
-use Rattle.controller.specs.declared.Ticked.{Ticked}
-use Rattle.controller.specs.Start.{start_number}
-use Rattle.controller.specs.Frame.{refused, may_charge, kind_of, frame_to, session_moved, content_taken, charge_to, queries_moved, query_to, message_to}
+use Rattle.controller.specs.Frame.{Answer}
+use Rattle.controller.specs.Tick.{Ticked}
+use Rattle.controller.specs.Frame.{refused, may_charge, frame_to, session_moved, content_taken, charge_to, queries_moved, query_to, message_to}
 use Rattle.controller.specs.Tick.{accepted, TickIs}
 use Rattle.refusals.specs.Frame.{message_in}
 use Rattle.session_states.specs.States.{is_before_charging}
@@ -69,8 +67,8 @@ others =
     ∷ message.Charge charge.Ccs
     ∷ message.Charge charge.Cst
     ∷ message.Charge charge.Cem
-    ∷ message.Query query.Acv
-    ∷ message.Query query.Act
+    ∷ message.Query kind.Voltages
+    ∷ message.Query kind.Temperatures
     ∷ []
 
 -- ---- a message that is not taken: whether it is one that returns silence to 0
@@ -161,18 +159,18 @@ left_session source s b (outcome.Keep st) h k = absurd (k refl)
 left_session source s b outcome.End h k = absurd (k refl)
 
 -- ---- a CIM by its PF
-unfoldable cim_in : Recognized → Bool
-cim_in (recognized.As (message.Charge charge.Cim)) = true
-cim_in (recognized.As (message.Charge charge.Cvm)) = false
-cim_in (recognized.As (message.Charge charge.Cmp)) = false
-cim_in (recognized.As (message.Charge charge.Crm)) = false
-cim_in (recognized.As (message.Charge charge.Ccs)) = false
-cim_in (recognized.As (message.Charge charge.Cst)) = false
-cim_in (recognized.As (message.Charge charge.Cem)) = false
-cim_in (recognized.As (message.Query q)) = false
-cim_in (recognized.Refused n) = false
+unfoldable cim_in : Result Message Refusal → Bool
+cim_in (Ok (message.Charge charge.Cim)) = true
+cim_in (Ok (message.Charge charge.Cvm)) = false
+cim_in (Ok (message.Charge charge.Cmp)) = false
+cim_in (Ok (message.Charge charge.Crm)) = false
+cim_in (Ok (message.Charge charge.Ccs)) = false
+cim_in (Ok (message.Charge charge.Cst)) = false
+cim_in (Ok (message.Charge charge.Cem)) = false
+cim_in (Ok (message.Query q)) = false
+cim_in (Err n) = false
 
-cim_message : (m : ChargeMessage) → cim_in (recognized.As (message.Charge (charge_of m))) ≡ is_cim m
+cim_message : (m : ChargeMessage) → cim_in (Ok (message.Charge (charge_of m))) ≡ is_cim m
 unfolding cim_in is_cim
 cim_message Cim = refl
 cim_message (Cvm b) = refl
@@ -192,7 +190,7 @@ cim_told pf = either (eqb pf 0x26) (recognized_of_rest pf)
         (same cim_in (eqb n 0x16) refl (same cim_in (eqb n 0x1f) refl (same cim_in (eqb n 0x1b) refl (same cim_in (eqb n 0x1c) refl refl)))))))
 
     either : (b : Bool) → cim_in (first_with pf others) ≡ false
-        → cim_in (cond b (recognized.As (message.Charge charge.Cim)) (first_with pf others)) ≡ b
+        → cim_in (cond b (Ok (message.Charge charge.Cim)) (first_with pf others)) ≡ b
     either true h = refl
     either false h = h
 
@@ -205,9 +203,9 @@ module _ (c : Controller) (id : ℕ) (s : List ℕ) where
   Keeps a = (a.number ≡ 0 → ⊥) → a.controller ≡ left_by a.number c (Receive id s)
 
   -- refused by another number than 11
-  plainly : (n : ℕ) → (n ≡ 11 → ⊥) → Keeps (refused n c)
+  plainly : (n : Refusal) → (number_of n ≡ 11 → ⊥) → Keeps (refused n c)
   unfolding left_by
-  plainly n h k = rw (ne_eqb n 11 h)
+  plainly n h k = rw (ne_eqb (number_of n) 11 h)
 
   eleven : (b : Bool) → b ≡ is_cim_frame id → (n : ℕ) (t : Session) → n ≡ 11
       → t ≡ cond (is_before_charging c.session.state && not b) (with_silence c.session 0) c.session
@@ -228,16 +226,16 @@ module _ (c : Controller) (id : ℕ) (s : List ℕ) where
       let l = left_session source c.session (resets c.session.state m) o (told c.settings c.session.count c.session.state m) k in
       eleven (is_cim m) e (outcome_number o) _ l.0 l.1
 
-  content_keeps : (k : Charge) → message_in c.settings.own id s ≡ recognized.As (message.Charge k) → (m : Content)
+  content_keeps : (k : Charge) → message_in c.settings.own id s ≡ Ok (message.Charge k) → (m : Result ChargeMessage Refusal)
       → content_of k s ≡ m → Keeps (content_taken c source m)
   unfolding content_taken ContentOf is_cim_frame
-  content_keeps k p (content.Allowed m) e =
-      let q : charge_of m ≡ k = content_is k s (content.Allowed m) e in
+  content_keeps k p (Ok m) e =
+      let q : charge_of m ≡ k = content_is k s (Ok m) e in
       message_keeps m
       (sym (cim_message m)
-      ∙ (ap (λ (z : Charge). cim_in (recognized.As (message.Charge z))) q
+      ∙ (ap (λ (z : Charge). cim_in (Ok (message.Charge z))) q
       ∙ (ap cim_in (sym (pf_is c.settings.own id s (message.Charge k) p)) ∙ cim_told (parts_of id).pf)))
-  content_keeps k p (content.Refused n) e = plainly n (λ z. let t : n ≡ 10 = content_is k s (content.Refused n) e in omega (arith, z, t))
+  content_keeps k p (Err n) e = plainly n (λ z. let t : number_of n ≡ 10 = content_is k s (Err n) e in omega (arith, z, t))
 
   if_keeps : (t : Bool) (a b : Answer) → Keeps a → Keeps b → Keeps (cond t a b)
   if_keeps true a b h k = h
@@ -255,12 +253,12 @@ module _ (c : Controller) (id : ℕ) (s : List ℕ) where
       let full = leb most_waiting (length (waiting c.queries)) in
       rw (ne_eqb (cond some 12 (cond full 13 0)) 0 k, ne_eqb (cond some 12 (cond full 13 0)) 11 (ask_other some full))
 
-  by_message : (r : Recognized) → message_in c.settings.own id s ≡ r → Keeps (message_to c source s r)
+  by_message : (r : Result Message Refusal) → message_in c.settings.own id s ≡ r → Keeps (message_to c source s r)
   unfolding message_to charge_to query_to
-  by_message (recognized.As (message.Charge k)) e =
-      if_keeps (may_charge c source) _ _ (content_keeps k e (content_of k s) refl) (plainly 9 (λ z. omega (arith, z)))
-  by_message (recognized.As (message.Query q)) e = query_keeps (kind_of q)
-  by_message (recognized.Refused n) e = plainly n (λ z. let l : n < 9 = refused_low c.settings.own id s n e in omega arith)
+  by_message (Ok (message.Charge k)) e =
+      if_keeps (may_charge c source) _ _ (content_keeps k e (content_of k s) refl) (plainly NotTheStation (λ z. omega (arith, z)))
+  by_message (Ok (message.Query q)) e = query_keeps q
+  by_message (Err n) e = plainly n (λ z. let l : number_of n < 9 = refused_low c.settings.own id s n e in omega arith)
 
   pub frame_keeps : Keeps (frame_to c id s)
   frame_keeps = subst Keeps (sym (frame_view c id s)) (by_message (message_in c.settings.own id s) refl)
@@ -280,12 +278,12 @@ refused_write : (x : Settings) (old new : List ℕ) (w : Written) → Wrote x ol
 unfolding written_of
 refused_write x old new w h n = not_zero (write_number x old) (λ z. n (ap (λ (y : Written). y.number) h.answer ∙ z))
 
-refused_read : (b : Box) (s : List ℕ) (a : Start) → (start_number a ≡ 0 → ⊥)
-    → started a b ≡ box_left_by (start_number a) b (Read s)
+refused_read : (b : Box) (s : List ℕ) (a : Result Controller Refusal) → (answered a ≡ 0 → ⊥)
+    → started a b ≡ box_left_by (answered a) b (Read s)
 unfolding started box_left_by left_by
-refused_read b s (Made c) n = absurd (n refl)
-refused_read NoController s (Refused k) n = refl
-refused_read (Using c) s (Refused k) n = refl
+refused_read b s (Ok c) n = absurd (n refl)
+refused_read NoController s (Err k) n = refl
+refused_read (Using c) s (Err k) n = refl
 
 -- THE DEMAND
 pub demand_1 : (b : Box) (m : CallMade) → KeepsPromise b m → (number_given m ≡ 0 → ⊥) → LeftAsItWas b m

@@ -3,6 +3,9 @@
 -- lasts and however many there were before. The entry points' promises are this machine: `tick_is_the_machine` and the
 -- three after it. Assumes nothing.
 use Prim.Native.Nat.{ℕ, ◌*◌}
+use Rattle.std.proofs.Common.{Result, Ok, Err}
+use Rattle.numbers.specs.declared.Refusal.{Refusal}
+use Rattle.numbers.specs.Numbers.{answered}
 use mathlib.Core.Path.{◌≡◌, refl, ap}
 use mathlib.Core.Bool.{Bool, true, false, cond}
 use mathlib.Core.List.{List, [], ◌∷◌, ◌++◌}
@@ -14,18 +17,14 @@ use Rattle.frames.specs.declared.Frame.{Frame}
 use Rattle.frames.specs.Frame.{record_size, records_of}
 use Rattle.readings.specs.declared.Readings.{Readings}
 use Rattle.settings.specs.declared.Settings.{Settings}
-use Rattle.settings.specs.declared.Written.{Written}
-use Rattle.settings.specs.declared.SettingsRead.{SettingsRead}
-use Rattle.settings.specs.declared.SettingsRead.TheVariants as read
+use Rattle.settings.specs.Write.{Written}
 use Rattle.settings.specs.Read.{read_of, record_number}
 use Rattle.settings.specs.Write.{Wrote}
 use Rattle.session_paper_counts.proofs.InStep.{start_in_step}
 use Rattle.controller.specs.declared.Controller.{Controller}
-use Rattle.controller.specs.declared.Answer.{Answer}
-use Rattle.controller.specs.declared.Start.{Start}
-use Rattle.controller.specs.declared.Start.TheVariants.{Made, Refused}
-use Rattle.controller.specs.declared.Ticked.{Ticked}
-use Rattle.controller.specs.Start.{fresh_of, start_with, start_of, start_number}
+use Rattle.controller.specs.Frame.{Answer}
+use Rattle.controller.specs.Tick.{Ticked}
+use Rattle.controller.specs.Start.{fresh_of, start_with, start_of}
 use Rattle.controller.specs.Frame.{frame_to}
 use Rattle.refusals.specs.Tick.{tick_number}
 use Rattle.controller.specs.Tick.{tick_frames, tick_next, accepted, TickIs}
@@ -58,16 +57,16 @@ unfolding seen_of box_after
 frame_is_the_machine c id s a h = (rw h, rw h)
 
 -- as `read` promises it: the number; a controller that is made is the one in use, and a refusal leaves the one in use
-pub read_is_the_machine : (b : Box) (s : List ℕ) (a : Start) → start_number a ≡ record_number s → a ≡ start_of s
-    → (seen_of tick_next b (Read s) ≡ Gave (start_number a) 0 [] []) × (box_after tick_next b (Read s) ≡ started a b)
+pub read_is_the_machine : (b : Box) (s : List ℕ) (a : Result Controller Refusal) → answered a ≡ record_number s → a ≡ start_of s
+    → (seen_of tick_next b (Read s) ≡ Gave (answered a) 0 [] []) × (box_after tick_next b (Read s) ≡ started a b)
 unfolding seen_of box_after
 read_is_the_machine b s a n h = (rw n, rw h)
 
-pub made_is_in_use : (b : Box) (c : Controller) → started (Made c) b ≡ Using c
+pub made_is_in_use : (b : Box) (c : Controller) → started (Ok c) b ≡ Using c
 unfolding started
 made_is_in_use b c = refl
 
-pub refused_stays : (b : Box) (n : ℕ) → started (Refused n) b ≡ b
+pub refused_stays : (b : Box) (n : Refusal) → started (Err n) b ≡ b
 unfolding started
 refused_stays b n = refl
 
@@ -92,10 +91,10 @@ fresh_in_step : (x : Settings) → code_of (fresh_of x) ≡ fresh_of x
 unfolding code_of fresh_of
 fresh_in_step x = rw start_in_step
 
-with_in_step : (a : SettingsRead) (b : Box) → code_box (started (start_with a) b) ≡ started (start_with a) (code_box b)
+with_in_step : (a : Result Settings Refusal) (b : Box) → code_box (started (start_with a) b) ≡ started (start_with a) (code_box b)
 unfolding started start_with code_box
-with_in_step (read.Read x) b = ap Using (fresh_in_step x)
-with_in_step (read.Refused n) b = refl
+with_in_step (Ok x) b = ap Using (fresh_in_step x)
+with_in_step (Err n) b = refl
 
 ticked : (t : Bool) (c d : Controller) {c' d' : Controller} → code_of c ≡ c' → code_of d ≡ d'
     → code_box (Using (cond t c d)) ≡ Using (cond t c' d')

@@ -2,6 +2,8 @@
 -- The other way: among all the frames of a tick none but Parameters' own is an ECP of ours, and Parameters sends none
 -- before count 5. So after any calls one has gone out exactly where the count tells so. Assumes nothing.
 use Prim.Native.Nat.{ℕ, ◌+◌, ◌%◌, ◌<◌, ◌≤◌}
+use Rattle.std.proofs.Common.{Result, Ok, Err}
+use Rattle.numbers.specs.declared.Refusal.{Refusal}
 use native.Mathlib.Omega.{arith}
 use mathlib.Core.Path.{◌≡◌, refl, sym, ap, subst, ◌∙◌}
 use mathlib.Core.Bool.{Bool, true, false, not, cond, ◌&&◌, ◌||◌, false≢true}
@@ -14,8 +16,6 @@ use Rattle.messages.specs.Table.{EVM, ECP}
 use Rattle.messages.specs.Identifier.{parts_of, number_of, identifier_of}
 use Rattle.frames.specs.declared.Frame.{Frame}
 use Rattle.settings.specs.declared.Settings.{Settings}
-use Rattle.settings.specs.declared.SettingsRead.{SettingsRead}
-use Rattle.settings.specs.declared.SettingsRead.TheVariants as read
 use Rattle.settings.specs.Read.{read_of, record_number}
 use Rattle.readings.specs.declared.Readings.{Readings}
 use Rattle.cells.specs.declared.Cells.{Cells}
@@ -38,7 +38,7 @@ use Rattle.session.specs.Frames.{parameters_frames, frames_in, frames_of}
 use Rattle.session.specs.Tick.{turned_by, turn_in, sent_of}
 use Rattle.session_paper_counts.specs.Literal.{literal_in, literal_advance, literal_tick}
 use Rattle.controller.specs.declared.Controller.{Controller}
-use Rattle.controller.specs.declared.Answer.{Answer}
+use Rattle.controller.specs.Frame.{Answer}
 use Rattle.controller.specs.Start.{fresh_of, start_with, start_of}
 use Rattle.controller.specs.Frame.{frame_to, session_moved}
 use Rattle.controller.specs.Tick.{tick_frames, charge_frames, accepted}
@@ -247,15 +247,15 @@ module _ (g : Bool) (c : Controller) (h : Past g c.session) where
       ∙ among_charge x u.station d.station b.own (tick_frames c r v t) k) i)
   tick_at b r v t l m n room new old false e d p i = as_it_was g false c.session c.session refl h p i
 
-read_past : (g : Bool) (b : Box) (s : List ℕ) (a : SettingsRead) → PastIn g b
+read_past : (g : Bool) (b : Box) (s : List ℕ) (a : Result Settings Refusal) → PastIn g b
     → PastIn
     (gone_after ecp g
     (record { before = b; call = Read s; seen = Gave (record_number s) 0 [] []; after = started (start_with a) b }))
     (started (start_with a) b)
 unfolding PastIn gone_after goes_on is_here sends takes frames_seen started start_with fresh_of holds ecp is_parameters
-read_past g b s (read.Read x) h = λ p i. absurd (false≢true p)
-read_past g NoController s (read.Refused n) h = tt
-read_past g (Using c) s (read.Refused n) h = as_it_was g false c.session c.session refl h
+read_past g b s (Ok x) h = λ p i. absurd (false≢true p)
+read_past g NoController s (Err n) h = tt
+read_past g (Using c) s (Err n) h = as_it_was g false c.session c.session refl h
 
 call_past : (g : Bool) (b : Box) (k : Call) → BytesIn b → BytesIn (box_after paper_next b k) → PastIn g b
     → PastIn (gone_after ecp g (step_at b k)) (box_after paper_next b k)

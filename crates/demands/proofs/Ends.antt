@@ -1,6 +1,10 @@
 -- The insurer's first question, "which message, in which state, may end a charge?": exactly the calls of `EndsSession`
 -- end a session, after any run, and exactly those of `EndsCharge` end a charge. Assumes nothing.
 use Prim.Native.Nat.{ℕ}
+use Rattle.numbers.specs.declared.Refusal.TheVariants.{NotInThisState}
+use Rattle.std.proofs.Common.{Result, Ok, Err}
+use Rattle.numbers.specs.declared.Refusal.{Refusal}
+use Rattle.numbers.specs.Numbers.{answered}
 use mathlib.Core.Path.{◌≡◌, refl, sym, ap, subst, ◌∙◌}
 use mathlib.Core.Bool.{Bool, true, false, not, ◌&&◌, false≢true}
 use mathlib.Core.List.{List}
@@ -8,8 +12,6 @@ use lib.Dec.{ltb}
 use Rattle.buffers.proofs.Tests.{and_left, and_right}
 use Rattle.messages.specs.Identifier.{parts_of}
 use Rattle.settings.specs.declared.Settings.{Settings}
-use Rattle.settings.specs.declared.SettingsRead.{SettingsRead}
-use Rattle.settings.specs.declared.SettingsRead.TheVariants as read
 use Rattle.settings.specs.Read.{read_of}
 use Rattle.cells.specs.Summaries.{cells_of}
 use Rattle.charge_messages.specs.declared.ChargeMessage.{ChargeMessage}
@@ -21,7 +23,7 @@ use Rattle.session_by_message.specs.Message.{outcome_of, in_stopping}
 use Rattle.session.specs.declared.Session.{Session}
 use Rattle.session.specs.Message.{session_after, applied_of, message_of}
 use Rattle.controller.specs.declared.Controller.{Controller}
-use Rattle.controller.specs.declared.Answer.{Answer}
+use Rattle.controller.specs.Frame.{Answer}
 use Rattle.session_states.specs.States.{is_idle}
 use Rattle.controller.specs.Frame.{refused, frame_to}
 use Rattle.controller.specs.Start.{fresh_of}
@@ -61,7 +63,7 @@ early_in x n (Stopping k e) h g = rw g
 early_in x n Error h g = absurd (false≢true h)
 
 refuses_early : (c : Controller) → ltb 0 c.session.count ≡ false → is_stopping c.session.state ≡ true
-    → session_moved c (message_of c.settings c.session.station c.session (Cst true)) ≡ refused 11 c
+    → session_moved c (message_of c.settings c.session.station c.session (Cst true)) ≡ refused NotInThisState c
 unfolding session_moved message_of applied_of session_after
 refuses_early c g h = rw (early_in c.settings c.session.count c.session.state h g)
 
@@ -148,17 +150,17 @@ module _ (c : Controller) (id : ℕ) (s : List ℕ) where
       ∙ (which_message_ends_a_charge c.settings c.session.station c.session m h ∙ ap not e)
 
 -- ---- settings read
-read_idle : (a : SettingsRead) (c : Controller) → is_idle c.session.state ≡ false
+read_idle : (a : Result Settings Refusal) (c : Controller) → is_idle c.session.state ≡ false
     → is_idle (read_into a c).session.state ≡ is_read a
 unfolding read_into is_read fresh_of is_idle
-read_idle (read.Read x) c h = refl
-read_idle (read.Refused n) c h = h
+read_idle (Ok x) c h = refl
+read_idle (Err n) c h = h
 
-read_charging : (a : SettingsRead) (c : Controller) → is_charging c.session.state ≡ true
+read_charging : (a : Result Settings Refusal) (c : Controller) → is_charging c.session.state ≡ true
     → is_charging (read_into a c).session.state ≡ not (is_read a)
 unfolding read_into is_read fresh_of is_charging
-read_charging (read.Read x) c h = refl
-read_charging (read.Refused n) c h = h
+read_charging (Ok x) c h = refl
+read_charging (Err n) c h = h
 
 -- ---- any call, in any state, the EST told by Stopping's count
 not_true : (b : Bool) → false ≡ not b → b ≡ true
@@ -232,6 +234,6 @@ module _ (c : Controller) (told : Bool) (h : is_stopping c.session.state ≡ tru
   -- THE INCIDENT's other form: an acknowledgement that comes in Stopping before an EST of ours has gone out is answered
   -- 11 and changes nothing
   pub early_acknowledgement : (id : ℕ) (s : List ℕ) → is_stopping c.session.state ≡ true → told ≡ false
-      → Says c.settings c.session.station (Cst true) id s → frame_to c id s ≡ refused 11 c
+      → Says c.settings c.session.station (Cst true) id s → frame_to c id s ≡ refused NotInThisState c
   early_acknowledgement id s st g says =
       taken_in c id s (Cst true) (stopping_open c.session.state st) says ∙ refuses_early c (h st ∙ g) st

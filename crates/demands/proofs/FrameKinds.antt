@@ -16,8 +16,8 @@ use Rattle.readings.specs.declared.Readings.{Readings}
 use Rattle.cells.specs.Summaries.{cells_of}
 use Rattle.cells.specs.Tables.{tables_fit}
 use Rattle.cells.proofs.Bounds.{fit, Fit}
-use Rattle.queries.specs.declared.Kind.{Kind}
-use Rattle.queries.specs.declared.Kind.TheVariants.{Voltages, Temperatures}
+use Rattle.messages.specs.declared.received.Kind.{Kind}
+use Rattle.messages.specs.declared.received.Kind.TheVariants.{Voltages, Temperatures}
 use Rattle.queries.specs.declared.Query.{Query}
 use Rattle.queries.specs.Waiting.{waiting}
 use Rattle.queries.specs.Answering.{per_group, group_row, group_frame, table_length, past_end, answer_frames}

@@ -3,6 +3,7 @@
 -- has been sent, a CMP in Parameters only if an ECP has, a CRM in Ready only if an ERM AA has been sent since the last
 -- CMP. Assumes nothing.
 use Prim.Native.Nat.{ℕ, ◌+◌}
+use Rattle.numbers.specs.Numbers.{answered}
 use native.Mathlib.Omega.{arith}
 use mathlib.Core.Path.{◌≡◌, refl, sym, ap, ◌∙◌}
 use mathlib.Core.Bool.{Bool, true, false, cond, ◌&&◌, ◌||◌, false≢true}
@@ -36,7 +37,7 @@ use Rattle.session_frames.specs.Layouts.{eim_of, ecp_of, erm_of, est_frame}
 use Rattle.session.specs.Frames.{is_fifth, each5, parameters_frames, est_bytes, stopping_frames, frames_in}
 use Rattle.session.specs.Message.{message_of, applied_of}
 use Rattle.controller.specs.declared.Controller.{Controller}
-use Rattle.controller.specs.declared.Answer.{Answer}
+use Rattle.controller.specs.Frame.{Answer}
 use Rattle.controller.specs.Frame.{frame_to, session_moved}
 use Rattle.demands.specs.Machine.{Call, NoController, Using, paper_next, box_at}
 use Rattle.demands.specs.Says.{charge_of, Says}

@@ -1,6 +1,8 @@
 -- "Gone out", over any run, for any watch (specs/GoneOut.antt): where a state's count tells whether the frame has gone
 -- out at one tick and at one message (`Law`), it tells so after any calls (`told_by_count`). Assumes nothing.
 use Prim.Native.Nat.{ℕ, ◌+◌}
+use Rattle.std.proofs.Common.{Result, Ok, Err}
+use Rattle.numbers.specs.declared.Refusal.{Refusal}
 use mathlib.Core.Path.{◌≡◌, refl, sym, ap, subst, ◌∙◌}
 use mathlib.Core.Bool.{Bool, true, false, not, cond, ◌&&◌, ◌||◌}
 use mathlib.Core.List.{List, [], ◌∷◌, ◌++◌}
@@ -12,8 +14,6 @@ use Rattle.messages.specs.Identifier.{parts_of}
 use Rattle.messages.specs.Received.{recognized_of}
 use Rattle.frames.specs.declared.Frame.{Frame}
 use Rattle.settings.specs.declared.Settings.{Settings}
-use Rattle.settings.specs.declared.SettingsRead.{SettingsRead}
-use Rattle.settings.specs.declared.SettingsRead.TheVariants as read
 use Rattle.settings.specs.Read.{read_of, record_number}
 use Rattle.readings.specs.declared.Readings.{Readings}
 use Rattle.cells.specs.declared.Cells.{Cells}
@@ -32,7 +32,7 @@ use Rattle.session.specs.Frames.{frames_in, frames_of}
 use Rattle.session.specs.Tick.{turned_by, turn_in, sent_of}
 use Rattle.session_paper_counts.specs.Literal.{literal_in, literal_advance, literal_tick}
 use Rattle.controller.specs.declared.Controller.{Controller}
-use Rattle.controller.specs.declared.Answer.{Answer}
+use Rattle.controller.specs.Frame.{Answer}
 use Rattle.controller.specs.Start.{fresh_of, start_with, start_of}
 use Rattle.controller.specs.Frame.{frame_to, session_moved}
 use Rattle.controller.specs.Tick.{tick_frames, charge_frames, broadcast_frames, cell_frames, accepted}
@@ -213,15 +213,15 @@ module _ (w : Watch) (sure : State → Bool) (Told : ℕ → Bool → Type 0) (l
   abbrev step_at : Box → Call → Step
   step_at b k = record { before = b; call = k; seen = seen_of paper_next b k; after = box_after paper_next b k }
 
-  read_agrees : (before : Bool) (b : Box) (s : List ℕ) (a : SettingsRead) → AgreesIn before b
+  read_agrees : (before : Bool) (b : Box) (s : List ℕ) (a : Result Settings Refusal) → AgreesIn before b
       → AgreesIn
       (gone_after w before
       (record { before = b; call = Read s; seen = Gave (record_number s) 0 [] []; after = started (start_with a) b }))
       (started (start_with a) b)
   unfolding AgreesIn gone_after goes_on is_here sends takes frames_seen started start_with fresh_of holds
-  read_agrees before b s (read.Read x) h = λ p. absurd (idle_not p)
-  read_agrees before NoController s (read.Refused n) h = tt
-  read_agrees before (Using c) s (read.Refused n) h = as_it_was before false c.session c.session refl refl h
+  read_agrees before b s (Ok x) h = λ p. absurd (idle_not p)
+  read_agrees before NoController s (Err n) h = tt
+  read_agrees before (Using c) s (Err n) h = as_it_was before false c.session c.session refl refl h
 
   call_agrees : (before : Bool) (b : Box) (k : Call) → AgreesIn before b
       → AgreesIn (gone_after w before (step_at b k)) (box_after paper_next b k)

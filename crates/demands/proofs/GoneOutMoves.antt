@@ -1,6 +1,9 @@
 -- How a session gets from one of the eight states to the next, by a message and by a tick, as far as "gone out" asks:
 -- a state goes on, with its count kept, or another begins. Assumes nothing.
 use Prim.Native.Nat.{ℕ, ◌+◌}
+use Rattle.std.proofs.Common.{Result, Ok, Err}
+use Rattle.numbers.specs.declared.Refusal.{Refusal}
+use Rattle.messages.specs.declared.received.Message.{Message}
 use native.Mathlib.Omega.{arith}
 use mathlib.Core.Path.{◌≡◌, refl, sym, ◌∙◌}
 use mathlib.Core.Bool.{Bool, true, false, cond, ◌&&◌, false≢true}
@@ -8,8 +11,6 @@ use borrow.Author.Tests.{ne_eqb}
 use lib.Dec.{eqb, leb}
 use Rattle.messages.specs.declared.received.Charge.{Charge}
 use Rattle.messages.specs.declared.received.Message.TheVariants as message
-use Rattle.messages.specs.declared.received.Recognized.{Recognized}
-use Rattle.messages.specs.declared.received.Recognized.TheVariants as recognized
 use Rattle.settings.specs.declared.Settings.{Settings}
 use Rattle.readings.specs.declared.Readings.{Readings}
 use Rattle.readings.specs.Readings.{wanted_of}
@@ -225,9 +226,9 @@ and_none : (b : Bool) → (b && false) ≡ false
 and_none true = refl
 and_none false = refl
 
-pub left_untaken : (these : Charge → Bool) (a : Recognized) (n : ℕ) → (charge_in a ≡ true → n ≡ 0 → ⊥)
+pub left_untaken : (these : Charge → Bool) (a : Result Message Refusal) (n : ℕ) → (charge_in a ≡ true → n ≡ 0 → ⊥)
     → (is_one_of these a && eqb n 0) ≡ false
 unfolding is_one_of charge_in
-left_untaken these (recognized.As (message.Charge k)) n f = rw (ne_eqb n 0 (f refl)) (and_none (these k))
-left_untaken these (recognized.As (message.Query q)) n f = refl
-left_untaken these (recognized.Refused k) n f = refl
+left_untaken these (Ok (message.Charge k)) n f = rw (ne_eqb n 0 (f refl)) (and_none (these k))
+left_untaken these (Ok (message.Query q)) n f = refl
+left_untaken these (Err k) n f = refl

@@ -1,6 +1,10 @@
 -- The statements of one call more: after any calls from the start, what the next call does (specs/Statements.antt).
 -- Each is its lemma of one call of any controller, carried over to the calls that were made. Assumes nothing.
 use Prim.Native.Nat.{ℕ}
+use Rattle.refusals.specs.Frame.{listed}
+use mathlib.Core.Bool.{cond}
+use Rattle.numbers.specs.Numbers.{number_of}
+use Rattle.numbers.specs.declared.Refusal.TheVariants.{NotTheStation, NotInThisState}
 use native.Mathlib.Omega.{arith}
 use mathlib.Core.Logic.{◌⊎◌}
 use mathlib.Core.Path.{◌≡◌, refl, sym, ap, subst, ◌∙◌}
@@ -22,8 +26,8 @@ use Rattle.session_states.specs.Limits.{closing_limit, first_ecp}
 use Rattle.session_paper_counts.specs.Folds.{fold_state, fold_count, folds}
 use Rattle.session_paper_counts.proofs.Fold.{fold_ltb}
 use Rattle.controller.specs.declared.Controller.{Controller}
-use Rattle.controller.specs.declared.Answer.{Answer}
-use Rattle.controller.specs.declared.Ticked.{Ticked}
+use Rattle.controller.specs.Frame.{Answer}
+use Rattle.controller.specs.Tick.{Ticked}
 use Rattle.session.specs.Message.{applied_of, message_of}
 use Rattle.controller.specs.Frame.{frame_to, session_moved}
 use Rattle.controller.specs.Tick.{accepted, tick_frames}
@@ -282,11 +286,15 @@ pub each_opens : EachOpens
 unfolding KeepsPromise
 each_opens ms c id s a u h o says l = subst (Opens c id s) (sym h) (idle.each_opens c id s (in_idle_lem c o) says l)
 
+either_number : (l : Bool) → number_of (cond l NotInThisState NotTheStation) ≡ cond l 11 9
+either_number true = refl
+either_number false = refl
+
 pub replayed_acknowledgement : ReplayedAcknowledgement
 unfolding KeepsPromise
 replayed_acknowledgement ms c source id s a u h o says =
     let e = h ∙ idle.replayed_acknowledgement c id s (in_idle_lem c o) source says in
-    (ap (λ (z : Answer). z.number) e, ap (λ (z : Answer). z.controller) e)
+    (ap (λ (z : Answer). z.number) e ∙ either_number (listed source c.settings.stations), ap (λ (z : Answer). z.controller) e)
 
 -- ---- what has gone out before a message is taken: of the machine's controller behind, which answers the same
 module _ (ms : List CallMade) (c : Controller) (u : AfterCalls ms c) (id : ℕ) (s : List ℕ) (a : Answer) (h : NextCall c (DidReceive id s a)) where

@@ -2,6 +2,8 @@
 -- yes or no and the station's maximum are those of its offer, and in Charging no more is asked than it offers. Assumes
 -- nothing.
 use Prim.Native.Nat.{ℕ, ◌≤◌}
+use Rattle.std.proofs.Common.{Result, Ok, Err}
+use Rattle.numbers.specs.declared.Refusal.{Refusal}
 use native.Mathlib.Omega.{arith}
 use mathlib.Core.Path.{◌≡◌, refl, sym, ap, subst, ◌∙◌}
 use mathlib.Core.Bool.{Bool, true, false, cond, ◌&&◌, false≢true}
@@ -16,8 +18,6 @@ use Rattle.messages.specs.Received.{recognized_of}
 use Rattle.units.specs.declared.TenthAmps.{TenthAmps}
 use Rattle.units.specs.Units.{lesser_amps}
 use Rattle.settings.specs.declared.Settings.{Settings}
-use Rattle.settings.specs.declared.SettingsRead.{SettingsRead}
-use Rattle.settings.specs.declared.SettingsRead.TheVariants as read
 use Rattle.settings.specs.Read.{read_of}
 use Rattle.readings.specs.declared.Readings.{Readings}
 use Rattle.cells.specs.declared.Cells.{Cells}
@@ -25,7 +25,6 @@ use Rattle.cells.specs.Summaries.{cells_of}
 use Rattle.charge_messages.specs.declared.Offer.{Offer}
 use Rattle.charge_messages.specs.declared.ChargeMessage.{ChargeMessage}
 use Rattle.charge_messages.specs.declared.ChargeMessage.TheVariants.{Cim, Cvm, Cmp, Crm, Ccs, Cst, Cem}
-use Rattle.charge_messages.specs.declared.Content.TheVariants.{Allowed}
 use Rattle.charge_messages.specs.Content.{content_of}
 use Rattle.session_states.specs.Limits.{first_ecp}
 use Rattle.session_states.specs.declared.phases.Phase.{Phase}
@@ -45,7 +44,7 @@ use Rattle.session.specs.declared.Session.{Session}
 use Rattle.session.specs.Message.{applied_of, message_of}
 use Rattle.session_paper_counts.specs.Literal.{literal_tick}
 use Rattle.controller.specs.declared.Controller.{Controller}
-use Rattle.controller.specs.declared.Answer.{Answer}
+use Rattle.controller.specs.Frame.{Answer}
 use Rattle.controller.specs.Start.{fresh_of, start_with, start_of}
 use Rattle.controller.specs.Frame.{frame_to, session_moved}
 use Rattle.controller.specs.Tick.{accepted}
@@ -177,7 +176,7 @@ module _ (x : Settings) (n : ℕ) where
     cmp_held o Error h = tt
 
     -- any
-    message_held : (m : ChargeMessage) (s : List ℕ) → content_of (charge_of m) s ≡ Allowed m → (st : State) → Held x l st
+    message_held : (m : ChargeMessage) (s : List ℕ) → content_of (charge_of m) s ≡ Ok m → (st : State) → Held x l st
         → Held x (cond (is_cmp (charge_of m) && eqb (outcome_number (outcome_of x st n m)) 0) (offer_of (content_of charge.Cmp s)) l)
         (state_after st (outcome_of x st n m))
     unfolding is_cmp offer_of offer_in
@@ -253,10 +252,10 @@ module _ (l : LastOffer) where
   abbrev step_at : Box → Call → Step
   step_at b k = record { before = b; call = k; seen = seen_of paper_next b k; after = box_after paper_next b k }
 
-  read_held : (a : SettingsRead) (b : Box) → HeldIn l b → HeldIn l (started (start_with a) b)
+  read_held : (a : Result Settings Refusal) (b : Box) → HeldIn l b → HeldIn l (started (start_with a) b)
   unfolding HeldIn started start_with fresh_of Held
-  read_held (read.Read x) b h = tt
-  read_held (read.Refused n) b h = h
+  read_held (Ok x) b h = tt
+  read_held (Err n) b h = h
 
   taken_tick : (c : Controller) (r : Readings) (v : List ℕ) (t : List ℤ) (took : Bool) → HeldIn l (Using c)
       → HeldIn l (Using (cond took (paper_next c r v t) c))

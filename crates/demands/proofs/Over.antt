@@ -2,6 +2,7 @@
 -- from a listed station and opens a session with that station, or it leaves the session as it was; and a charge message
 -- that is no such CIM is refused by number. And each such CIM opens one. Assumes nothing.
 use Prim.Native.Nat.{ℕ}
+use Rattle.numbers.specs.declared.Refusal.TheVariants.{NotTheStation, NotInThisState}
 use mathlib.Core.Logic.{◌⊎◌, inl, inr}
 use mathlib.Core.Path.{◌≡◌, refl, ap, ◌∙◌}
 use mathlib.Core.Bool.{Bool, true, false, cond}
@@ -17,7 +18,7 @@ use Rattle.session_by_message.specs.Message.{outcome_of, in_idle}
 use Rattle.session.specs.Session.{opened}
 use Rattle.session.specs.Message.{session_after, applied_of, message_of}
 use Rattle.controller.specs.declared.Controller.{Controller}
-use Rattle.controller.specs.declared.Answer.{Answer}
+use Rattle.controller.specs.Frame.{Answer}
 use Rattle.session_states.specs.States.{is_idle}
 use Rattle.refusals.specs.Frame.{listed}
 use Rattle.controller.specs.Frame.{refused, may_charge, frame_to}
@@ -106,16 +107,16 @@ module _ (c : Controller) (id : ℕ) (s : List ℕ) (h : c.session.state ≡ Idl
   -- what else a source says, it says in vain: 11 where it is a listed station, 9 where it is not, and nothing is
   -- changed
   module _ (source : ℕ) (m : ChargeMessage) (says : Says c.settings source m id s) (refuses : in_idle m ≡ Refuse) where
-    refused_11 : session_moved c (message_of c.settings source c.session m) ≡ refused 11 c
+    refused_11 : session_moved c (message_of c.settings source c.session m) ≡ refused NotInThisState c
     unfolding session_moved message_of applied_of outcome_of session_after
     refused_11 = rw (h, refuses)
 
-    in_vain : (l : Bool) → listed source c.settings.stations ≡ l → frame_to c id s ≡ refused (cond l 11 9) c
+    in_vain : (l : Bool) → listed source c.settings.stations ≡ l → frame_to c id s ≡ refused (cond l NotInThisState NotTheStation) c
     in_vain true e = says_taken c id s source m says (may_is source ∙ e) ∙ refused_11
     in_vain false e = says_refused c id s source m says (may_is source ∙ e)
 
   -- THE INCIDENT: an acknowledgement that is sent again once its session is over, whoever sends it
   pub replayed_acknowledgement : (source : ℕ) → Says c.settings source (Cst true) id s
-      → frame_to c id s ≡ refused (cond (listed source c.settings.stations) 11 9) c
+      → frame_to c id s ≡ refused (cond (listed source c.settings.stations) NotInThisState NotTheStation) c
   unfolding in_idle
   replayed_acknowledgement source says = in_vain source (Cst true) says refl (listed source c.settings.stations) refl

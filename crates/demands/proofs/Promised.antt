@@ -1,6 +1,9 @@
 -- Answers that keep the promises: whatever is called of a controller, there is an answer as its entry point promises
 -- it. So no statement over calls that were made is empty. Assumes nothing.
 use Prim.Native.Nat.{ℕ, ◌*◌}
+use Rattle.numbers.specs.declared.Refusal.TheVariants.{Layout, SettingOutOfRange}
+use Rattle.std.proofs.Common.{Ok, Err}
+use Rattle.numbers.specs.Numbers.{answered}
 use mathlib.Core.Path.{◌≡◌, refl, sym, ap, subst}
 use mathlib.Core.Bool.{Bool, true, false, cond}
 use mathlib.Core.List.{List, [], ◌∷◌, ◌++◌}
@@ -9,14 +12,13 @@ use lib.ListN.{length, drop}
 use Rattle.frames.specs.Frame.{record_size, records_of}
 use Rattle.readings.specs.declared.Readings.{Readings}
 use Rattle.settings.specs.declared.Settings.{Settings}
-use Rattle.settings.specs.declared.SettingsRead.TheVariants as read
 use Rattle.settings.specs.Range.{in_range}
 use Rattle.settings.specs.Read.{layout_of, settings_of, record_number, read_of}
 use Rattle.settings.specs.Write.{written_of, buffer_after}
 use Rattle.refusals.specs.Tick.{tick_number}
 use Rattle.controller.specs.declared.Controller.{Controller}
-use Rattle.controller.specs.declared.Ticked.{Ticked}
-use Rattle.controller.specs.Start.{fresh_of, start_with, start_of, start_number}
+use Rattle.controller.specs.Tick.{Ticked}
+use Rattle.controller.specs.Start.{fresh_of, start_with, start_of}
 use Rattle.controller.specs.Frame.{frame_to}
 use Rattle.controller.specs.Tick.{tick_frames, tick_next, accepted}
 use Rattle.demands.specs.Machine.{Call, Read, Receive, Tick, Write, Box, NoController, Using, started}
@@ -26,12 +28,12 @@ use Rattle.demands.specs.Statements.{CanBeMade, AnyCallsCanBeMade}
 use Rattle.demands.proofs.StepsMade.{then_use}
 
 -- a record's number is that of its answer
-start_number_lem : (s : List ℕ) → start_number (start_of s) ≡ record_number s
+start_number_lem : (s : List ℕ) → answered (start_of s) ≡ record_number s
 unfolding start_of start_with read_of record_number
 start_number_lem s = either (layout_of s) (in_range (settings_of s))
   where
     either : (l r : Bool)
-        → start_number (start_with (cond l (cond r (read.Read (settings_of s)) (read.Refused 2)) (read.Refused 1))) ≡ cond l (cond r 0 2) 1
+        → answered (start_with (cond l (cond r (Ok (settings_of s)) (Err SettingOutOfRange)) (Err Layout))) ≡ cond l (cond r 0 2) 1
     either true true = refl
     either true false = refl
     either false r = refl
@@ -90,8 +92,8 @@ promised_calls [] c = refl
 promised_calls (k ∷ ks) c = rw (promised_is c k, promised_calls ks (use_then c (promised c k)))
 
 -- ---- from the start, with a record that is accepted
-module _ (bytes : List ℕ) (x : Settings) (e : read_of bytes ≡ read.Read x) where
-  start_is : start_of bytes ≡ start_with (read.Read x)
+module _ (bytes : List ℕ) (x : Settings) (e : read_of bytes ≡ Ok x) where
+  start_is : start_of bytes ≡ start_with (Ok x)
   unfolding start_of
   start_is = ap start_with e
 

@@ -3,6 +3,8 @@
 -- ticks: eight accepted ones are enough (proofs/ReachRun.antt has such a run), and with fewer no session comes to
 -- Charging (proofs/ReachLeast.antt). Assumes nothing.
 use Prim.Native.Nat.{ℕ, ◌+◌, ◌≤◌, ◌<◌}
+use Rattle.std.proofs.Common.{Result, Ok, Err}
+use Rattle.numbers.specs.declared.Refusal.{Refusal}
 use native.Mathlib.Omega.{arith}
 use mathlib.Core.Path.{◌≡◌, refl, ap, sym, subst, ◌∙◌}
 use mathlib.Core.Bool.{true, false, false≢true}
@@ -11,8 +13,6 @@ use lib.IntN.{ℤ}
 use borrow.Author.Tests.{lt-leb}
 use Rattle.messages.specs.Identifier.{parts_of}
 use Rattle.settings.specs.declared.Settings.{Settings}
-use Rattle.settings.specs.declared.SettingsRead.{SettingsRead}
-use Rattle.settings.specs.declared.SettingsRead.TheVariants as read
 use Rattle.settings.specs.Read.{read_of}
 use Rattle.readings.specs.declared.Readings.{Readings}
 use Rattle.readings.specs.Readings.{wanted_of}
@@ -159,10 +159,10 @@ module _ (x : Settings) (a : ℕ) (o : Offer) where
     says_here m id s h =
         subst (λ (z : Settings). Says z a m id s) w.settings (subst (λ (z : Session). Says c.settings z.station m id s) w.session h)
 
-    now_read : (f : SettingsRead) → is_read f ≡ false → Now k n b (read_into f c)
+    now_read : (f : Result Settings Refusal) → is_read f ≡ false → Now k n b (read_into f c)
     unfolding is_read read_into
-    now_read (read.Read y) h = absurd (false≢true (sym h))
-    now_read (read.Refused m) h = w
+    now_read (Ok y) h = absurd (false≢true (sym h))
+    now_read (Err m) h = w
 
     now_passes : (e : Call) → Passing x a e → Now k n b (after c e)
     unfolding Passing after

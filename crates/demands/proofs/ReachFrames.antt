@@ -1,24 +1,23 @@
 -- A frame in an open session: the session's station says a charge message by it, and the session takes that message, or
 -- the session is as it was. Assumes nothing.
 use Prim.Native.Nat.{ℕ}
+use Rattle.std.proofs.Common.{Result, Ok, Err}
+use Rattle.numbers.specs.declared.Refusal.{Refusal}
+use Rattle.messages.specs.declared.received.Message.{Message}
 use mathlib.Core.Path.{◌≡◌, ap, sym, subst, ◌∙◌}
 use mathlib.Core.Bool.{false}
 use mathlib.Core.List.{List}
 use Rattle.messages.specs.declared.received.Charge.{Charge}
 use Rattle.messages.specs.declared.received.Charge.TheVariants as charge
 use Rattle.messages.specs.declared.received.Message.TheVariants as message
-use Rattle.messages.specs.declared.received.Recognized.{Recognized}
-use Rattle.messages.specs.declared.received.Recognized.TheVariants as recognized
 use Rattle.messages.specs.Identifier.{parts_of}
 use Rattle.settings.specs.declared.Settings.{Settings}
 use Rattle.charge_messages.specs.declared.ChargeMessage.{ChargeMessage}
 use Rattle.charge_messages.specs.declared.ChargeMessage.TheVariants.{Cim}
-use Rattle.charge_messages.specs.declared.Content.{Content}
-use Rattle.charge_messages.specs.declared.Content.TheVariants as content
 use Rattle.charge_messages.specs.Content.{content_of}
 use Rattle.session.specs.Message.{message_of}
 use Rattle.controller.specs.declared.Controller.{Controller}
-use Rattle.controller.specs.declared.Answer.{Answer}
+use Rattle.controller.specs.Frame.{Answer}
 use Rattle.controller.specs.Frame.{frame_to}
 use Rattle.demands.specs.After.{no_session}
 use Rattle.demands.specs.Says.{Says, charge_of}
@@ -33,14 +32,14 @@ unfolding session_moved no_session
 frame_says c m id s h o = ap (λ (a : Answer). a.controller.session) (taken_in c id s m o h)
 
 -- a frame says one message
-unfoldable kind_in : Recognized → Charge
-kind_in (recognized.As (message.Charge k)) = k
-kind_in (recognized.As (message.Query q)) = charge.Cim
-kind_in (recognized.Refused n) = charge.Cim
+unfoldable kind_in : Result Message Refusal → Charge
+kind_in (Ok (message.Charge k)) = k
+kind_in (Ok (message.Query q)) = charge.Cim
+kind_in (Err n) = charge.Cim
 
-unfoldable allowed_in : Content → ChargeMessage
-allowed_in (content.Allowed m) = m
-allowed_in (content.Refused n) = Cim
+unfoldable allowed_in : Result ChargeMessage Refusal → ChargeMessage
+allowed_in (Ok m) = m
+allowed_in (Err n) = Cim
 
 pub says_one : (x : Settings) (st : ℕ) (m w : ChargeMessage) (id : ℕ) (s : List ℕ) → Says x st m id s → Says x st w id s
     → m ≡ w

@@ -4,6 +4,8 @@
 -- accepted tick raises it by one at the most. That eight are enough is `eight_are_enough` (proofs/ReachRun.antt).
 -- Assumes nothing.
 use Prim.Native.Nat.{ℕ, ◌+◌, ◌≤◌}
+use Rattle.std.proofs.Common.{Result, Ok, Err}
+use Rattle.numbers.specs.declared.Refusal.{Refusal}
 use native.Mathlib.Omega.{arith}
 use mathlib.Core.Path.{◌≡◌, refl, ap, ◌∙◌}
 use mathlib.Core.Bool.{Bool, true, false, cond, false≢true}
@@ -13,8 +15,6 @@ use lib.IntN.{ℤ}
 use borrow.Author.Tests.{ltb-true}
 use Rattle.messages.specs.Identifier.{parts_of}
 use Rattle.settings.specs.declared.Settings.{Settings}
-use Rattle.settings.specs.declared.SettingsRead.{SettingsRead}
-use Rattle.settings.specs.declared.SettingsRead.TheVariants as read
 use Rattle.settings.specs.Read.{read_of}
 use Rattle.controller.specs.Start.{fresh_of}
 use Rattle.readings.specs.declared.Readings.{Readings}
@@ -40,7 +40,7 @@ use Rattle.session.specs.Message.{session_after, applied_of, message_of}
 use Rattle.session.specs.Tick.{turned_by, turn_in}
 use Rattle.session_paper_counts.specs.Literal.{grown, counted, literal_in, literal_advance, literal_tick}
 use Rattle.controller.specs.declared.Controller.{Controller}
-use Rattle.controller.specs.declared.Answer.{Answer}
+use Rattle.controller.specs.Frame.{Answer}
 use Rattle.controller.specs.Frame.{frame_to}
 use Rattle.session_states.specs.Limits.{silence_limit, closing_limit, first_ecp}
 use Rattle.demands.specs.Machine.{Call, Receive, Tick, Write, Read, paper_next}
@@ -195,10 +195,10 @@ paper_needs : (c : Controller) (r : Readings) (v : List ℕ) (t : List ℤ)
 unfolding paper_next
 paper_needs c r v t = tick_needs c.settings r (cells_of v t) c.session
 
-read_needs : (a : SettingsRead) (c : Controller) → needed (read_into a c).session ≤ needed c.session + 0
+read_needs : (a : Result Settings Refusal) (c : Controller) → needed (read_into a c).session ≤ needed c.session + 0
 unfolding read_into fresh_of needed needs
-read_needs (read.Read x) c = omega arith
-read_needs (read.Refused n) c = omega arith
+read_needs (Ok x) c = omega arith
+read_needs (Err n) c = omega arith
 
 call_needs : (c : Controller) (e : Call)
     → needed (after c e).session ≤ needed c.session + cond (is_accepted_tick e) 1 0

@@ -2,6 +2,8 @@
 -- never above the maximum current of the settings in use; and tag 3 allows no more than 4000 (`read_in_range`,
 -- settings), so 4000 minus it is what ECR says. Assumes nothing.
 use Prim.Native.Nat.{ℕ, ◌≤◌}
+use Rattle.std.proofs.Common.{Result, Ok, Err}
+use Rattle.numbers.specs.declared.Refusal.{Refusal}
 use native.Mathlib.Omega.{arith}
 use mathlib.Core.Path.{◌≡◌, refl, sym, ap, subst, ◌∙◌}
 use mathlib.Core.Bool.{Bool, true, false, cond}
@@ -13,8 +15,6 @@ use Rattle.messages.specs.Identifier.{parts_of}
 use Rattle.units.specs.declared.TenthAmps.{TenthAmps}
 use Rattle.units.specs.Units.{lesser_amps, halved_amps}
 use Rattle.settings.specs.declared.Settings.{Settings}
-use Rattle.settings.specs.declared.SettingsRead.{SettingsRead}
-use Rattle.settings.specs.declared.SettingsRead.TheVariants as read
 use Rattle.settings.specs.Read.{read_of}
 use Rattle.readings.specs.declared.Readings.{Readings}
 use Rattle.readings.specs.Readings.{wanted_of}
@@ -39,7 +39,7 @@ use Rattle.session.specs.Tick.{turned_by, turn_in}
 use Rattle.session_paper_counts.specs.Folds.{fold_phase}
 use Rattle.session_paper_counts.specs.Literal.{older, grown, counted, literal_in, literal_advance, literal_tick}
 use Rattle.controller.specs.declared.Controller.{Controller}
-use Rattle.controller.specs.declared.Answer.{Answer}
+use Rattle.controller.specs.Frame.{Answer}
 use Rattle.controller.specs.Start.{fresh_of}
 use Rattle.controller.specs.Frame.{frame_to}
 use Rattle.session_states.specs.Limits.{silence_limit, closing_limit, drive_limit, rest_limit, hold_limit, most_drives}
@@ -242,10 +242,10 @@ frame_within c id s a (Took m says may e) h =
     (after_asks c.settings c.session.count (parts_of id).source c.session (outcome_of c.settings c.session.state c.session.count m) h
     (outcome_asks c.settings c.session.count c.session.state _ (outcome_leads c.settings c.session.count c.session.state m)))
 
-read_within : (a : SettingsRead) (c : Controller) → Within c → Within (read_into a c)
+read_within : (a : Result Settings Refusal) (c : Controller) → Within c → Within (read_into a c)
 unfolding read_into fresh_of request_in
-read_within (read.Read x) c h = omega arith
-read_within (read.Refused n) c h = h
+read_within (Ok x) c h = omega arith
+read_within (Err n) c h = h
 
 tick_within : (c : Controller) (r : Readings) (v : List ℕ) (t : List ℤ) (b : Bool) → Within c
     → Within (cond b (paper_next c r v t) c)

@@ -2,13 +2,13 @@
 -- session. In the one the station falls silent and the session lives through 800 ticks; in the other the station
 -- follows the handshake, and after eight ticks the session is in Charging. Assumes nothing.
 use Prim.Native.Nat.{ℕ}
+use Rattle.std.proofs.Common.{Ok}
 use native.Mathlib.Omega.{arith}
 use mathlib.Core.Path.{◌≡◌, refl, sym, ap, subst, ◌∙◌}
 use mathlib.Core.Bool.{true, false, false≢true}
 use mathlib.Core.List.{List, [], ◌∷◌}
 use lib.IntN.{pos}
 use Rattle.settings.specs.Record.{record_of}
-use Rattle.settings.specs.declared.SettingsRead.TheVariants as read
 use Rattle.settings.specs.Read.{read_of}
 use Rattle.settings.proofs.RoundTrip.{read_written}
 use Rattle.session_states.specs.States.{is_idle, is_charging}
@@ -37,7 +37,7 @@ use Rattle.demands.proofs.ReachRun as run
 use Rattle.demands.proofs.OfRuns.{use_all, ends_made, silence_to}
 
 -- ---- the record
-pub ours_read : read_of (record_of ours) ≡ read.Read ours
+pub ours_read : read_of (record_of ours) ≡ Ok ours
 ours_read = read_written ours settings_good
 
 fresh_in_use : AfterCalls (read_first (record_of ours) ours ours_read ∷ []) (fresh_of ours)

@@ -33,8 +33,8 @@ use Rattle.session.specs.Tick.{turned_by, turn_in, sent_of}
 use Rattle.broadcasts.specs.Beat.{due_at, heartbeat_at}
 use Rattle.broadcasts.specs.Layouts.{ps_of, cvs_of, cts_of, fws_of, ec_of, broadcasts_of}
 use Rattle.broadcasts.specs.Sendings.{in_order, broadcast_at}
-use Rattle.queries.specs.declared.Kind.{Kind}
-use Rattle.queries.specs.declared.Kind.TheVariants.{Voltages, Temperatures}
+use Rattle.messages.specs.declared.received.Kind.{Kind}
+use Rattle.messages.specs.declared.received.Kind.TheVariants.{Voltages, Temperatures}
 use Rattle.queries.specs.declared.Query.{Query}
 use Rattle.queries.specs.Waiting.{waiting}
 use Rattle.queries.specs.Answering.{group_row, group_bytes, group_frame, past_end, answer_frames}

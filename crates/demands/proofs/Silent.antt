@@ -2,6 +2,8 @@
 -- addresses send, and whatever the station sends that the session does not heed; and what it takes to live through 800
 -- (proofs/SilentRun.antt has such a run). Assumes nothing.
 use Prim.Native.Nat.{ℕ, zero, suc, ◌+◌, ◌-◌, ◌≤◌, ◌<◌}
+use Rattle.std.proofs.Common.{Result, Ok, Err}
+use Rattle.numbers.specs.declared.Refusal.{Refusal}
 use native.Mathlib.Omega.{arith}
 use mathlib.Core.Path.{◌≡◌, refl, ap, sym, subst, ◌∙◌}
 use mathlib.Core.Bool.{Bool, true, false, not, cond, ◌||◌, false≢true}
@@ -11,8 +13,6 @@ use lib.IntN.{ℤ, pos}
 use borrow.Author.Tests.{leb-true, leb-false, lt-leb}
 use Rattle.buffers.proofs.Tests.{and_left, and_right}
 use Rattle.settings.specs.declared.Settings.{Settings}
-use Rattle.settings.specs.declared.SettingsRead.{SettingsRead}
-use Rattle.settings.specs.declared.SettingsRead.TheVariants as read
 use Rattle.settings.specs.Read.{read_of}
 use Rattle.controller.specs.Start.{fresh_of}
 use Rattle.readings.specs.declared.Readings.{Readings}
@@ -214,10 +214,10 @@ unfolding paper_next no_session
 tick_falls c r v t true o = let f : left (paper_next c r v t).session < left c.session = falls c.settings r (cells_of v t) c.session o in omega arith
 tick_falls c r v t false o = omega arith
 
-read_falls : (a : SettingsRead) (c : Controller) → 0 + left (read_into a c).session ≤ left c.session
+read_falls : (a : Result Settings Refusal) (c : Controller) → 0 + left (read_into a c).session ≤ left c.session
 unfolding read_into fresh_of left left_in
-read_falls (read.Read x) c = omega arith
-read_falls (read.Refused n) c = omega arith
+read_falls (Ok x) c = omega arith
+read_falls (Err n) c = omega arith
 
 -- one call by which nothing is said that is heeded: if an accepted tick, less is left, else no more
 call_falls : (c : Controller) (e : Call) → no_session c ≡ false → Unheeded c e

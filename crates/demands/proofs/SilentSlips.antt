@@ -2,14 +2,14 @@
 -- any other message of the handshake holds one open in Charging. Whatever else comes, the session has ended within 801
 -- accepted ticks. Assumes nothing.
 use Prim.Native.Nat.{ℕ, ◌≤◌}
+use Rattle.std.proofs.Common.{Result, Ok, Err}
+use Rattle.numbers.specs.declared.Refusal.{Refusal}
 use mathlib.Core.Path.{◌≡◌, refl, sym, ap, subst, ◌∙◌}
 use mathlib.Core.Bool.{Bool, true, false, cond, false≢true}
 use mathlib.Core.List.{List, [], ◌∷◌}
 use lib.Dec.{leb}
 use lib.IntN.{ℤ}
 use Rattle.settings.specs.declared.Settings.{Settings}
-use Rattle.settings.specs.declared.SettingsRead.{SettingsRead}
-use Rattle.settings.specs.declared.SettingsRead.TheVariants as read
 use Rattle.settings.specs.Read.{read_of}
 use Rattle.controller.specs.Start.{fresh_of}
 use Rattle.readings.specs.declared.Readings.{Readings}
@@ -166,10 +166,10 @@ module _ (among : State → Bool) (these : ChargeMessage → Bool)
   over_silence c (e ∷ es) h = λ o. absurd (false≢true (sym o ∙ h))
 
   -- new settings end the session, and a record that is refused changes nothing
-  either_read : (a : SettingsRead) (c : Controller) (es : List Call) → Silence c es → Silence (read_into a c) es
+  either_read : (a : Result Settings Refusal) (c : Controller) (es : List Call) → Silence c es → Silence (read_into a c) es
   unfolding read_into fresh_of no_session is_idle
-  either_read (read.Read y) c es h = over_silence (fresh_of y) es refl
-  either_read (read.Refused n) c es h = h
+  either_read (Ok y) c es h = over_silence (fresh_of y) es refl
+  either_read (Err n) c es h = h
 
   deaf_silence : (x : Settings) (st : ℕ) (es : List Call) (c : Controller) → Deaf x st c → SaysOnly these x st es
       → Silence c es

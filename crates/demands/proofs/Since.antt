@@ -2,6 +2,10 @@
 -- after the calls since its record was read; and what a call is seen to do is what the demands speak of. Assumes
 -- nothing.
 use Prim.Native.Nat.{ℕ}
+use Rattle.std.proofs.Common.{Result, Ok, Err}
+use Rattle.numbers.specs.declared.Refusal.{Refusal}
+use Rattle.numbers.specs.Numbers.{answered}
+use Rattle.settings.specs.declared.Settings.{Settings}
 use mathlib.Core.Path.{◌≡◌, refl, sym, ap, ◌∙◌}
 use mathlib.Core.Bool.{Bool, true, false, cond, false≢true}
 use mathlib.Core.List.{List, [], ◌∷◌, ◌++◌}
@@ -11,8 +15,6 @@ use lib.IntN.{ℤ}
 use lib.ListN.{length}
 use Rattle.frames.specs.declared.Frame.{Frame}
 use Rattle.readings.specs.declared.Readings.{Readings}
-use Rattle.settings.specs.declared.SettingsRead.{SettingsRead}
-use Rattle.settings.specs.declared.SettingsRead.TheVariants as read
 use Rattle.settings.specs.Read.{read_of}
 use Rattle.controller.specs.declared.Controller.{Controller}
 use Rattle.controller.specs.Start.{fresh_of, start_with, start_of}
@@ -26,10 +28,10 @@ use Rattle.demands.specs.Unmoved.{beside_at}
 use Rattle.demands.specs.Since.{Since}
 
 -- ---- from a controller on, the machine's boxes are the controllers after the calls
-read_into_lem : (a : SettingsRead) (c : Controller) → started (start_with a) (Using c) ≡ Using (read_into a c)
+read_into_lem : (a : Result Settings Refusal) (c : Controller) → started (start_with a) (Using c) ≡ Using (read_into a c)
 unfolding started start_with read_into
-read_into_lem (read.Read x) c = refl
-read_into_lem (read.Refused n) c = refl
+read_into_lem (Ok x) c = refl
+read_into_lem (Err n) c = refl
 
 -- one call
 pub after_is : (c : Controller) (k : Call) → box_after paper_next (Using c) k ≡ Using (after c k)
@@ -73,11 +75,11 @@ module _ (c : Controller) where
         run = h.run;
       }
 
-  from_record : (s : List ℕ) (ks : List Call) (a : SettingsRead) → read_of s ≡ a
+  from_record : (s : List ℕ) (ks : List Call) (a : Result Settings Refusal) → read_of s ≡ a
       → box_at paper_next (started (start_with a) NoController) ks ≡ Using c
       → (box_at paper_next NoController ks ≡ Using c → Since ks c) → Since (Read s ∷ ks) c
   unfolding started start_with
-  from_record s ks (read.Read x) e h ih =
+  from_record s ks (Ok x) e h ih =
       record {
         before = [];
         bytes = s;
@@ -87,7 +89,7 @@ module _ (c : Controller) where
         taken = e;
         run = using_same _ c (sym (after_all_is (fresh_of x) ks) ∙ h);
       }
-  from_record s ks (read.Refused n) e h ih = one_earlier (Read s) ks (ih h)
+  from_record s ks (Err n) e h ih = one_earlier (Read s) ks (ih h)
 
   -- after any calls
   pub since : (ks : List Call) → box_at paper_next NoController ks ≡ Using c → Since ks c

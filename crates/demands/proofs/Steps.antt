@@ -1,5 +1,8 @@
 -- One call of the paper's machine beside one of the code's, from every controller. Assumes nothing.
 use Prim.Native.Nat.{ℕ}
+use Rattle.std.proofs.Common.{Result, Ok, Err}
+use Rattle.numbers.specs.declared.Refusal.{Refusal}
+use Rattle.charge_messages.specs.declared.ChargeMessage.{ChargeMessage}
 use mathlib.Core.Path.{◌≡◌, refl, ap}
 use mathlib.Core.Bool.{Bool, true, false, cond}
 use mathlib.Core.List.{List}
@@ -9,8 +12,6 @@ use Rattle.messages.specs.Identifier.{parts_of}
 use Rattle.readings.specs.declared.Readings.{Readings}
 use Rattle.settings.specs.declared.Settings.{Settings}
 use Rattle.cells.specs.Summaries.{cells_of}
-use Rattle.charge_messages.specs.declared.Content.{Content}
-use Rattle.charge_messages.specs.declared.Content.TheVariants as content
 use Rattle.charge_messages.specs.Content.{content_of}
 use Rattle.session_states.specs.declared.states.State.{State}
 use Rattle.session_states.specs.declared.states.State.TheVariants.{Idle, Offered, Unverified, Parameters, Ready, Charging, Stopping, Error}
@@ -21,7 +22,7 @@ use Rattle.session_paper_counts.specs.Folds.{folds, fold_phase, fold_state}
 use Rattle.session_paper_counts.proofs.InStep.{tick_in_step, frames_in_step}
 use Rattle.session_paper_counts.proofs.Outcomes.{fold_taken, message_folds}
 use Rattle.controller.specs.declared.Controller.{Controller}
-use Rattle.controller.specs.declared.Answer.{Answer}
+use Rattle.controller.specs.Frame.{Answer}
 use Rattle.session_states.specs.States.{is_idle}
 use Rattle.refusals.specs.Frame.{may_speak}
 use Rattle.controller.specs.Frame.{frame_to}
@@ -53,10 +54,10 @@ idle_folds = kind_folds is_idle (λ p. refl)
 
 -- a charge message does the same to the folded session
 module _ (x : Settings) (source : ℕ) (t : Session) where
-  content_folds : (m : Content) → fold_taken (content_on x source t m) ≡ content_on x source (folds t) m
+  content_folds : (m : Result ChargeMessage Refusal) → fold_taken (content_on x source t m) ≡ content_on x source (folds t) m
   unfolding content_on
-  content_folds (content.Allowed m) = message_folds x source t m
-  content_folds (content.Refused n) = refl
+  content_folds (Ok m) = message_folds x source t m
+  content_folds (Err n) = refl
 
   charge_folds : (k : Charge) (s : List ℕ) → fold_taken (charge_on x source k s t) ≡ charge_on x source k s (folds t)
   unfolding charge_on folds
@@ -72,7 +73,7 @@ module _ (x : Settings) (source : ℕ) (t : Session) where
 by_case : (c : Controller) (id : ℕ) (s : List ℕ) → View c.settings.own id s
     → code_answer (frame_to c id s) ≡ frame_to (code_of c) id s
 unfolding code_of session_moved queries_moved
-by_case c id s (Refused n h each) = rw (each c refl, each (code_of c) refl)
+by_case c id s (Refused n each) = rw (each c refl, each (code_of c) refl)
 by_case c id s (Asks q h each) = rw (each c refl, each (code_of c) refl)
 by_case c id s (Charges k h p each) =
     rw (each c refl, each (code_of c) refl)

@@ -3,6 +3,8 @@
 -- of the machine's steps, and asks of a controller nothing but what the code's has too, holds of the calls made.
 -- Assumes nothing.
 use Prim.Native.Nat.{◌%◌}
+use Rattle.std.proofs.Common.{Result, Ok, Err}
+use Rattle.numbers.specs.declared.Refusal.{Refusal}
 use native.Mathlib.Omega.{arith}
 use mathlib.Core.Path.{◌≡◌, refl, sym, ap, subst, ◌∙◌}
 use mathlib.Core.List.{List, [], ◌∷◌, ◌++◌, map}
@@ -10,8 +12,6 @@ use Rattle.session_paper_counts.specs.Folds.{folds}
 use Rattle.session_paper_counts.proofs.Again.{folds_again}
 use Rattle.broadcasts.specs.Beat.{two_sendings}
 use Rattle.controller.specs.declared.Controller.{Controller}
-use Rattle.controller.specs.declared.Start.{Start}
-use Rattle.controller.specs.declared.Start.TheVariants.{Made, Refused}
 use Rattle.demands.specs.Machine.{Box, NoController, Using, paper_next, started, box_after, seen_of, box_at}
 use Rattle.demands.specs.InStep.{code_of, code_box}
 use Rattle.demands.specs.Calls.{CallMade, DidRead, DidReceive, DidTick, DidWrite, call_in, KeepsPromise, box_then, in_hand, AllKeepPromises, calls_in, box_last}
@@ -92,10 +92,10 @@ steps_from_use c e ns h =
     (steps_made_lem (Using c) ns (subst (λ (z : Box). AllKeepPromises z ns) (sym (own_box c e)) h))
 
 -- ---- the controller after further calls
-then_started : (a : Start) (c : Controller) → started a (Using c) ≡ Using (made_or a c)
+then_started : (a : Result Controller Refusal) (c : Controller) → started a (Using c) ≡ Using (made_or a c)
 unfolding started made_or
-then_started (Made d) c = refl
-then_started (Refused n) c = refl
+then_started (Ok d) c = refl
+then_started (Err n) c = refl
 
 pub then_use : (c : Controller) (m : CallMade) → box_then (Using c) m ≡ Using (use_then c m)
 unfolding box_then use_then

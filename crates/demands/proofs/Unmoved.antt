@@ -1,19 +1,20 @@
 -- Demand 3, second half: charge messages never change a broadcast, a cell answer or the number that a query is given.
 -- Assumes nothing.
 use Prim.Native.Nat.{ℕ}
+use Rattle.std.proofs.Common.{Result, Ok, Err}
+use Rattle.numbers.specs.declared.Refusal.{Refusal}
+use Rattle.settings.specs.declared.Settings.{Settings}
 use mathlib.Core.Path.{◌≡◌, refl, ap, sym, ◌∙◌}
 use mathlib.Core.Bool.{Bool, true, false, cond, false≢true}
 use mathlib.Core.List.{List, [], ◌∷◌, ◌++◌}
 use lib.IntN.{ℤ}
-use Rattle.settings.specs.declared.SettingsRead.{SettingsRead}
-use Rattle.settings.specs.declared.SettingsRead.TheVariants as read
 use Rattle.settings.specs.Read.{read_of}
 use Rattle.readings.specs.declared.Readings.{Readings}
 use Rattle.messages.specs.Identifier.{parts_of}
 use Rattle.queries.specs.Asking.{queued_of}
 use Rattle.controller.specs.declared.Controller.{Controller}
-use Rattle.controller.specs.declared.Answer.{Answer}
-use Rattle.controller.specs.Frame.{kind_of, frame_to}
+use Rattle.controller.specs.Frame.{Answer}
+use Rattle.controller.specs.Frame.{frame_to}
 use Rattle.controller.specs.Tick.{broadcast_frames, cell_frames}
 use Rattle.controller.specs.With.{with_session}
 use Rattle.demands.specs.Machine.{Call, Receive, Tick, Write, Read, paper_next}
@@ -44,9 +45,9 @@ module _ (c d : Controller) (a : Beside c d) where
   by_case : (id : ℕ) (l : List ℕ) → View c.settings.own id l → is_charge id ≡ false
       → BesideAfter (frame_to c id l) (frame_to d id l)
   unfolding queries_moved
-  by_case id l (Refused n h each) f = rw (each c refl, each d same_own) (record { beside = a; number = refl })
+  by_case id l (Refused n each) f = rw (each c refl, each d same_own) (record { beside = a; number = refl })
   by_case id l (Asks q h each) f =
-      let asked : Controller → Answer = λ z. queries_moved z (queued_of z.queries (parts_of id).source (kind_of q)) in
+      let asked : Controller → Answer = λ z. queries_moved z (queued_of z.queries (parts_of id).source q) in
       rw (each c refl, each d same_own)
       (record { beside = ap (λ (z : Controller). (asked z).controller) a; number = ap (λ (z : Controller). (asked z).number) a })
   by_case id l (Charges k h p each) f = absurd (false≢true (sym f ∙ h))
@@ -62,10 +63,10 @@ module _ (c d : Controller) (a : Beside c d) where
   unfolding paper_next
   beside_next r v t = ap (λ (z : Controller). with_session (paper_next z r v t) (paper_next d r v t).session) a
 
-  beside_read : (s : SettingsRead) → Beside (read_into s c) (read_into s d)
+  beside_read : (s : Result Settings Refusal) → Beside (read_into s c) (read_into s d)
   unfolding read_into
-  beside_read (read.Read x) = refl
-  beside_read (read.Refused n) = a
+  beside_read (Ok x) = refl
+  beside_read (Err n) = a
 
   beside_call : (e : Call) → is_charge_message e ≡ false → Beside (after c e) (after d e)
   unfolding after is_charge_message

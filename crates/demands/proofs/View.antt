@@ -3,6 +3,12 @@
 -- so controllers with the same address are in the same case, and each case tells what each of them answers. No other
 -- file looks into the checks, but to run them on given frames (proofs/ReachRun.antt). Assumes nothing.
 use Prim.Native.Nat.{ℕ, ◌<◌}
+use Rattle.numbers.specs.Numbers.{number_of}
+use Rattle.numbers.specs.declared.Refusal.TheVariants.{NotTheStation}
+use Rattle.std.proofs.Common.{Result, Ok, Err}
+use Rattle.numbers.specs.declared.Refusal.{Refusal}
+use Rattle.numbers.specs.Numbers.{answered}
+use Rattle.charge_messages.specs.declared.ChargeMessage.{ChargeMessage}
 use mathlib.Core.Path.{◌≡◌, refl, ap, subst, ◌∙◌}
 use mathlib.Core.Bool.{Bool, true, false, cond, false≢true}
 use mathlib.Core.List.{List, [], ◌∷◌}
@@ -10,26 +16,22 @@ use native.Mathlib.Omega.{arith}
 use lib.Dec.{eqb, ltb}
 use lib.ListN.{length}
 use Rattle.messages.specs.declared.received.Charge.{Charge}
-use Rattle.messages.specs.declared.received.Query.{Query}
+use Rattle.messages.specs.declared.received.Kind.{Kind}
 use Rattle.messages.specs.declared.received.Message.{Message}
 use Rattle.messages.specs.declared.received.Message.TheVariants as message
-use Rattle.messages.specs.declared.received.Recognized.{Recognized}
-use Rattle.messages.specs.declared.received.Recognized.TheVariants as recognized
 use Rattle.messages.specs.Identifier.{parts_of}
 use Rattle.messages.specs.Table.{pf_of}
 use Rattle.messages.specs.Received.{row_of, least_length, nine, first_with, recognized_of}
 use Rattle.settings.specs.declared.Settings.{Settings}
-use Rattle.charge_messages.specs.declared.Content.{Content}
-use Rattle.charge_messages.specs.declared.Content.TheVariants as content
 use Rattle.charge_messages.specs.Content.{content_of}
 use Rattle.session.specs.declared.Session.{Session}
-use Rattle.session.specs.declared.Taken.{Taken}
+use Rattle.session.specs.Message.{Taken}
 use Rattle.session.specs.Message.{message_of}
 use Rattle.queries.specs.Asking.{queued_of}
 use Rattle.refusals.specs.Frame.{not_can, flags_set, not_for_us, bad_source, may_speak}
 use Rattle.controller.specs.declared.Controller.{Controller}
-use Rattle.controller.specs.declared.Answer.{Answer}
-use Rattle.controller.specs.Frame.{refused, may_charge, kind_of, frame_to}
+use Rattle.controller.specs.Frame.{Answer}
+use Rattle.controller.specs.Frame.{refused, may_charge, frame_to}
 use Rattle.refusals.specs.Frame.{long_enough, message_in}
 use Rattle.demands.specs.After.{charge_in, query_in, is_charge, is_query}
 use Rattle.controller.specs.Frame.{session_moved, content_taken, charge_to, queries_moved, query_to, message_to}
@@ -41,9 +43,9 @@ unfolding frame_to
 frame_view c id s = refl
 
 -- ---- a charge message, by settings and session alone: refused by 9 or 10, else taken or refused by 11
-unfoldable pub content_on : Settings → ℕ → Session → Content → Taken
-content_on x source t (content.Allowed m) = message_of x source t m
-content_on x source t (content.Refused n) = record { number = n; session = t }
+unfoldable pub content_on : Settings → ℕ → Session → Result ChargeMessage Refusal → Taken
+content_on x source t (Ok m) = message_of x source t m
+content_on x source t (Err n) = record { number = number_of n; session = t }
 
 unfoldable pub charge_on : Settings → ℕ → Charge → List ℕ → Session → Taken
 charge_on x source k s t =
@@ -55,43 +57,43 @@ charge_on_lem : (c : Controller) (source : ℕ) (k : Charge) (s : List ℕ)
 unfolding charge_to may_charge charge_on content_taken content_on session_moved
 charge_on_lem c source k s = both (may_charge c source) (content_of k s)
   where
-    both : (t : Bool) (m : Content)
-        → cond t (content_taken c source m) (refused 9 c)
+    both : (t : Bool) (m : Result ChargeMessage Refusal)
+        → cond t (content_taken c source m) (refused NotTheStation c)
         ≡ session_moved c (cond t (content_on c.settings source c.session m) (record { number = 9; session = c.session }))
-    both true (content.Allowed m) = refl
-    both true (content.Refused n) = refl
+    both true (Ok m) = refl
+    both true (Err n) = refl
     both false m = refl
 
 -- ---- what the checks tell of a PF: what they make a message is that message, and no charge message is refused by 0
-unfoldable Fits : Recognized → Recognized → Type 0
-Fits p (recognized.As m) = p ≡ recognized.As m
-Fits p (recognized.Refused n) = charge_in p ≡ true → n ≡ 0 → ⊥
+unfoldable Fits : Result Message Refusal → Result Message Refusal → Type 0
+Fits p (Ok m) = p ≡ Ok m
+Fits p (Err n) = Unit {0}
 
 module _ (own id : ℕ) (s : List ℕ) where
-  either : (p : Recognized) (t : Bool) (a b : Recognized) → Fits p a → Fits p b → Fits p (cond t a b)
+  either : (p : Result Message Refusal) (t : Bool) (a b : Result Message Refusal) → Fits p a → Fits p b → Fits p (cond t a b)
   either p true a b h k = h
   either p false a b h k = k
 
-  long_fits : (p : Recognized) → Fits p (long_enough s p)
+  long_fits : (p : Result Message Refusal) → Fits p (long_enough s p)
   unfolding long_enough Fits charge_in
-  long_fits (recognized.As m) = either (recognized.As m) (ltb (length s) (least_length m)) _ _ (λ e z. omega (arith, z)) refl
-  long_fits (recognized.Refused n) = λ e z. false≢true e
+  long_fits (Ok m) = either (Ok m) (ltb (length s) (least_length m)) _ _ tt refl
+  long_fits (Err n) = tt
 
   fits : Fits (recognized_of (parts_of id).pf) (message_in own id s)
   unfolding message_in Fits
   fits =
       let p = recognized_of (parts_of id).pf in
-      either p (not_can id s) _ _ (λ e z. omega (arith, z))
-      (either p (flags_set (parts_of id)) _ _ (λ e z. omega (arith, z))
-      (either p (not_for_us own (parts_of id)) _ _ (λ e z. omega (arith, z))
-      (either p (bad_source own (parts_of id)) _ _ (λ e z. omega (arith, z)) (long_fits p))))
+      either p (not_can id s) _ _ tt
+      (either p (flags_set (parts_of id)) _ _ tt
+      (either p (not_for_us own (parts_of id)) _ _ tt
+      (either p (bad_source own (parts_of id)) _ _ tt (long_fits p))))
 
-  fits_as : (r : Recognized) → message_in own id s ≡ r → Fits (recognized_of (parts_of id).pf) r
+  fits_as : (r : Result Message Refusal) → message_in own id s ≡ r → Fits (recognized_of (parts_of id).pf) r
   fits_as r e = subst (Fits (recognized_of (parts_of id).pf)) e fits
 
-  pub pf_is : (m : Message) → message_in own id s ≡ recognized.As m → recognized_of (parts_of id).pf ≡ recognized.As m
+  pub pf_is : (m : Message) → message_in own id s ≡ Ok m → recognized_of (parts_of id).pf ≡ Ok m
   unfolding Fits
-  pf_is m e = fits_as (recognized.As m) e
+  pf_is m e = fits_as (Ok m) e
 
   -- ---- the cases
   -- each controller with this address answers the frame so
@@ -99,48 +101,48 @@ module _ (own id : ℕ) (s : List ℕ) where
   Each answer = (c : Controller) → c.settings.own ≡ own → frame_to c id s ≡ answer c
 
   pub data View : Type 0 where
-    -- 3 to 8: a charge message is never refused by 0
-    Refused : (n : ℕ) → (is_charge id ≡ true → n ≡ 0 → ⊥) → Each (refused n) → View
+    -- 3 to 8
+    Refused : (n : Refusal) → Each (refused n) → View
     -- a query, answered by the waiting queries: 12, 13 or 0
-    Asks : (q : Query) → is_query id ≡ true
-        → Each (λ c. queries_moved c (queued_of c.queries (parts_of id).source (kind_of q))) → View
+    Asks : (q : Kind) → is_query id ≡ true
+        → Each (λ c. queries_moved c (queued_of c.queries (parts_of id).source q)) → View
     -- a charge message, answered by settings and session: 9, 10, 11 or 0
-    Charges : (k : Charge) → is_charge id ≡ true → message_in own id s ≡ recognized.As (message.Charge k)
+    Charges : (k : Charge) → is_charge id ≡ true → message_in own id s ≡ Ok (message.Charge k)
         → Each (λ c. session_moved c (charge_on c.settings (parts_of id).source k s c.session)) → View
 
-  each : (r : Recognized) → message_in own id s ≡ r → Each (λ c. message_to c (parts_of id).source s r)
+  each : (r : Result Message Refusal) → message_in own id s ≡ r → Each (λ c. message_to c (parts_of id).source s r)
   each r e c h =
       frame_view c id s ∙ ap (message_to c (parts_of id).source s) (ap (λ (o : ℕ). message_in o id s) h ∙ e)
 
   -- and the other way: what 3 to 8 make a charge message is answered so
-  pub each_charge : (k : Charge) → message_in own id s ≡ recognized.As (message.Charge k)
+  pub each_charge : (k : Charge) → message_in own id s ≡ Ok (message.Charge k)
       → Each (λ c. session_moved c (charge_on c.settings (parts_of id).source k s c.session))
   unfolding message_to
-  each_charge k e c h = each (recognized.As (message.Charge k)) e c h ∙ charge_on_lem c (parts_of id).source k s
+  each_charge k e c h = each (Ok (message.Charge k)) e c h ∙ charge_on_lem c (parts_of id).source k s
 
-  in_case : (r : Recognized) → message_in own id s ≡ r → View
+  in_case : (r : Result Message Refusal) → message_in own id s ≡ r → View
   unfolding message_to query_to is_charge is_query charge_in query_in Fits
-  in_case (recognized.As (message.Charge k)) e = Charges k (ap charge_in (pf_is (message.Charge k) e)) e (each_charge k e)
-  in_case (recognized.As (message.Query q)) e =
-      Asks q (ap query_in (pf_is (message.Query q) e)) (each (recognized.As (message.Query q)) e)
-  in_case (recognized.Refused n) e = Refused n (fits_as (recognized.Refused n) e) (each (recognized.Refused n) e)
+  in_case (Ok (message.Charge k)) e = Charges k (ap charge_in (pf_is (message.Charge k) e)) e (each_charge k e)
+  in_case (Ok (message.Query q)) e =
+      Asks q (ap query_in (pf_is (message.Query q) e)) (each (Ok (message.Query q)) e)
+  in_case (Err n) e = Refused n (each (Err n) e)
 
   pub view : View
   view = in_case (message_in own id s) refl
 
   -- 3 to 8 refuse by a number below 9
-  unfoldable Low : Recognized → Type 0
-  Low (recognized.As m) = Unit {0}
-  Low (recognized.Refused n) = n < 9
+  unfoldable Low : Result Message Refusal → Type 0
+  Low (Ok m) = Unit {0}
+  Low (Err n) = number_of n < 9
 
-  if_low : (t : Bool) (a b : Recognized) → Low a → Low b → Low (cond t a b)
+  if_low : (t : Bool) (a b : Result Message Refusal) → Low a → Low b → Low (cond t a b)
   if_low true a b h k = h
   if_low false a b h k = k
 
-  long_low : (p : Recognized) → Low p → Low (long_enough s p)
+  long_low : (p : Result Message Refusal) → Low p → Low (long_enough s p)
   unfolding long_enough Low
-  long_low (recognized.As m) h = if_low (ltb (length s) (least_length m)) _ _ (omega arith) tt
-  long_low (recognized.Refused n) h = h
+  long_low (Ok m) h = if_low (ltb (length s) (least_length m)) _ _ (omega arith) tt
+  long_low (Err n) h = h
 
   first_low : (pf : ℕ) (ms : List Message) → Low (first_with pf ms)
   unfolding Low
@@ -155,6 +157,6 @@ module _ (own id : ℕ) (s : List ℕ) where
       (if_low (not_for_us own (parts_of id)) _ _ (omega arith)
       (if_low (bad_source own (parts_of id)) _ _ (omega arith) (long_low (recognized_of (parts_of id).pf) (first_low (parts_of id).pf nine)))))
 
-  pub refused_low : (n : ℕ) → message_in own id s ≡ recognized.Refused n → n < 9
+  pub refused_low : (n : Refusal) → message_in own id s ≡ Err n → number_of n < 9
   unfolding Low
   refused_low n e = subst Low e low

@@ -2,13 +2,16 @@
 -- answer keeping its entry point's promise. Here nothing is said of how a controller goes on but what the promises say.
 -- For `demand_1`, `demand_2` and, by `AfterCalls`, for every statement.
 use Rattle.std.specs.Prelude.{ℕ, List, [], ◌∷◌, ℤ}
+use Rattle.std.specs.Prelude.{Result}
+use Rattle.numbers.specs.declared.Refusal.{Refusal}
+use Rattle.numbers.specs.Numbers.{answered}
+use Rattle.controller.specs.declared.Controller.{Controller}
 use Rattle.readings.specs.declared.Readings.{Readings}
-use Rattle.settings.specs.declared.Written.{Written}
+use Rattle.settings.specs.Write.{Written}
 use Rattle.settings.specs.Write.{Wrote}
-use Rattle.controller.specs.declared.Answer.{Answer}
-use Rattle.controller.specs.declared.Start.{Start}
-use Rattle.controller.specs.declared.Ticked.{Ticked}
-use Rattle.controller.specs.Start.{start_number, ReadIs}
+use Rattle.controller.specs.Frame.{Answer}
+use Rattle.controller.specs.Tick.{Ticked}
+use Rattle.controller.specs.Start.{ReadIs}
 use Rattle.controller.specs.Frame.{FrameIs}
 use Rattle.controller.specs.Tick.{TickIs}
 use Rattle.demands.specs.Machine.{Call, Read, Receive, Tick, Write, Box, NoController, Using, Seen, Gave, started}
@@ -16,7 +19,7 @@ use Rattle.demands.specs.Sent.{frames_written}
 
 -- a call that was made, and what it gave: an answer and, of a lent buffer, the contents before and after
 pub data CallMade : Type 0 where
-  DidRead : List ℕ → Start → CallMade
+  DidRead : List ℕ → Result Controller Refusal → CallMade
   DidReceive : ℕ → List ℕ → Answer → CallMade
   DidTick : Readings → List ℕ → List ℤ → List ℕ → List ℕ → Ticked → CallMade
   DidWrite : List ℕ → List ℕ → Written → CallMade
@@ -49,7 +52,7 @@ box_then b (DidWrite old new w) = b
 -- what the caller has in hand: the number, the bytes written, the frames that a tick has left in the buffer, and the
 -- buffer's later contents
 unfoldable pub in_hand : CallMade → Seen
-in_hand (DidRead s a) = Gave (start_number a) 0 [] []
+in_hand (DidRead s a) = Gave (answered a) 0 [] []
 in_hand (DidReceive id s a) = Gave a.number 0 [] []
 in_hand (DidTick r v t old new k) = Gave k.number k.bytes (frames_written k.bytes new) new
 in_hand (DidWrite old new w) = Gave w.number w.bytes [] new

@@ -3,12 +3,14 @@
 -- that the paper asks for. A controller is looked at by its settings, its session's station and the kind of its
 -- session's state alone. For `eim_told`, `ecp_told`, `erm_told`, `est_told`, `cvm_taken`, `cmp_taken`, `crm_taken`.
 use Rattle.std.specs.Prelude.{ℕ, Bool, true, false, not, ◌&&◌, ◌||◌, List, [], ◌∷◌, eqb, get_or}
+use Rattle.std.specs.Prelude.{Result, Ok, Err}
+use Rattle.numbers.specs.declared.Refusal.{Refusal}
+use Rattle.numbers.specs.Numbers.{answered}
+use Rattle.messages.specs.declared.received.Message.{Message}
 use Rattle.messages.specs.declared.table.Row.{Row}
 use Rattle.messages.specs.declared.received.Charge.{Charge}
 use Rattle.messages.specs.declared.received.Charge.TheVariants.{Cim, Cvm, Cmp, Crm, Ccs, Cst, Cem}
 use Rattle.messages.specs.declared.received.Message.TheVariants as message
-use Rattle.messages.specs.declared.received.Recognized.{Recognized}
-use Rattle.messages.specs.declared.received.Recognized.TheVariants as recognized
 use Rattle.messages.specs.Table.{EIM, ECP, ERM, EST}
 use Rattle.messages.specs.Identifier.{parts_of, identifier_of}
 use Rattle.messages.specs.Received.{recognized_of}
@@ -48,10 +50,10 @@ sends w NoController fs = false
 sends w (Using c) fs = holds (w.ours c.settings c.session.station) fs
 
 -- by its PF a frame is one of these charge messages
-unfoldable pub is_one_of : (Charge → Bool) → Recognized → Bool
-is_one_of these (recognized.As (message.Charge k)) = these k
-is_one_of these (recognized.As (message.Query q)) = false
-is_one_of these (recognized.Refused n) = false
+unfoldable pub is_one_of : (Charge → Bool) → Result Message Refusal → Bool
+is_one_of these (Ok (message.Charge k)) = these k
+is_one_of these (Ok (message.Query q)) = false
+is_one_of these (Err refusal) = false
 
 -- the call is one of these charge messages, and is taken
 unfoldable pub takes : (Charge → Bool) → Call → Seen → Bool

@@ -4,6 +4,8 @@
 -- accepted tick, for ever. For `demand_2`; every other statement is shown of this machine first, and carried over to
 -- the calls that were made (`steps_made_lem`).
 use Rattle.std.specs.Prelude.{ℕ, ◌+◌, ◌*◌, cond, List, [], ◌∷◌, ◌++◌, ℤ, length, drop}
+use Rattle.std.specs.Prelude.{Result, Ok, Err}
+use Rattle.numbers.specs.declared.Refusal.{Refusal}
 use Rattle.frames.specs.declared.Frame.{Frame}
 use Rattle.frames.specs.Frame.{record_size, records_of}
 use Rattle.readings.specs.declared.Readings.{Readings}
@@ -14,8 +16,6 @@ use Rattle.queries.specs.Waiting.{waiting, queries_of}
 use Rattle.queries.specs.Answering.{waiting_after}
 use Rattle.session_paper_counts.specs.Literal.{literal_tick}
 use Rattle.controller.specs.declared.Controller.{Controller}
-use Rattle.controller.specs.declared.Start.{Start}
-use Rattle.controller.specs.declared.Start.TheVariants.{Made, Refused}
 use Rattle.controller.specs.Start.{start_of}
 use Rattle.controller.specs.Frame.{frame_to}
 use Rattle.refusals.specs.Tick.{tick_number}
@@ -51,9 +51,9 @@ paper_next c r v t =
     (queries_of (waiting_after v t (waiting c.queries)))
 
 -- a settings record that is refused yields no controller: the one in use stays
-unfoldable pub started : Start → Box → Box
-started (Made c) b = Using c
-started (Refused n) b = b
+unfoldable pub started : Result Controller Refusal → Box → Box
+started (Ok c) b = Using c
+started (Err refusal) b = b
 
 -- how a controller goes on after an accepted tick is the one difference between the paper's machine and the code's
 module _ (next : Controller → Readings → List ℕ → List ℤ → Controller) where

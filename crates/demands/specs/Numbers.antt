@@ -1,9 +1,12 @@
 -- "Numbers returned" (01), the table: a line a number, in numeric order, each with what it is "given exactly when". A
 -- call is answered by the first of its numbers whose test holds, and by 0 where none does. For `the_numbers`.
 use Rattle.std.specs.Prelude.{ℕ, Bool, false, not, cond, ◌&&◌, List, [], ◌∷◌, eqb, leb, ltb, length}
+use Rattle.std.specs.Prelude.{Result, Ok, Err}
+use Rattle.numbers.specs.declared.Refusal.{Refusal}
+use Rattle.numbers.specs.Numbers.{answered}
+use Rattle.messages.specs.declared.received.Message.{Message}
+use Rattle.charge_messages.specs.declared.ChargeMessage.{ChargeMessage}
 use Rattle.messages.specs.declared.received.Message.TheVariants as message
-use Rattle.messages.specs.declared.received.Recognized.{Recognized}
-use Rattle.messages.specs.declared.received.Recognized.TheVariants as recognized
 use Rattle.messages.specs.Identifier.{parts_of}
 use Rattle.messages.specs.Received.{least_length, nine, recognized_of, some_has}
 use Rattle.readings.specs.Readings.{readings_in_range}
@@ -11,8 +14,6 @@ use Rattle.cells.specs.Tables.{tables_fit, cells_in_range}
 use Rattle.settings.specs.Range.{in_range}
 use Rattle.settings.specs.Read.{layout_of, settings_of}
 use Rattle.settings.specs.Record.{record_of}
-use Rattle.charge_messages.specs.declared.Content.{Content}
-use Rattle.charge_messages.specs.declared.Content.TheVariants as content
 use Rattle.charge_messages.specs.Content.{content_of, allowed_content}
 use Rattle.session_by_message.specs.Message.{outcome_number, outcome_of}
 use Rattle.queries.specs.Waiting.{most_waiting, waiting}
@@ -20,7 +21,7 @@ use Rattle.queries.specs.Asking.{some_asks}
 use Rattle.refusals.specs.Frame.{not_can, flags_set, not_for_us, bad_source}
 use Rattle.refusals.specs.Tick.{tick_room}
 use Rattle.controller.specs.declared.Controller.{Controller}
-use Rattle.controller.specs.Frame.{may_charge, kind_of}
+use Rattle.controller.specs.Frame.{may_charge}
 use Rattle.demands.specs.Machine.{Call, Read, Receive, Tick, Write, Box, NoController, Using}
 
 -- a line of the table: the number, and whether it is given
@@ -33,19 +34,19 @@ first_given [] = 0
 first_given (Given n when ∷ lines) = cond when n (first_given lines)
 
 -- the message is shorter than its least length
-unfoldable pub is_short : List ℕ → Recognized → Bool
-is_short s (recognized.As m) = ltb (length s) (least_length m)
-is_short s (recognized.Refused n) = false
+unfoldable pub is_short : List ℕ → Result Message Refusal → Bool
+is_short s (Ok m) = ltb (length s) (least_length m)
+is_short s (Err refusal) = false
 
 -- the message, with its content, is not taken in this state
-unfoldable pub not_taken : Controller → Content → Bool
-not_taken c (content.Allowed m) =
+unfoldable pub not_taken : Controller → Result ChargeMessage Refusal → Bool
+not_taken c (Ok m) =
     eqb (outcome_number (outcome_of c.settings c.session.state c.session.count m)) 11
-not_taken c (content.Refused n) = false
+not_taken c (Err refusal) = false
 
 -- a charge message, and a query, from a source
-unfoldable pub message_lines : Controller → ℕ → List ℕ → Recognized → List Line
-message_lines c source s (recognized.As (message.Charge k)) =
+unfoldable pub message_lines : Controller → ℕ → List ℕ → Result Message Refusal → List Line
+message_lines c source s (Ok (message.Charge k)) =
     -- Idle: source not in the list; else: not the session's station
     Given 9 (not (may_charge c source))
     -- content not allowed
@@ -53,13 +54,13 @@ message_lines c source s (recognized.As (message.Charge k)) =
     -- not taken in this state
     ∷ Given 11 (not_taken c (content_of k s))
     ∷ []
-message_lines c source s (recognized.As (message.Query q)) =
+message_lines c source s (Ok (message.Query q)) =
     -- same source and kind already waiting
-    Given 12 (some_asks source (kind_of q) (waiting c.queries))
+    Given 12 (some_asks source q (waiting c.queries))
     -- four waiting
     ∷ Given 13 (leb most_waiting (length (waiting c.queries)))
     ∷ []
-message_lines c source s (recognized.Refused n) = []
+message_lines c source s (Err refusal) = []
 
 unfoldable pub frame_lines : Controller → ℕ → List ℕ → List Line
 frame_lines c id s =

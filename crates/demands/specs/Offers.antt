@@ -3,6 +3,9 @@
 -- of the frames received, and the numbers answered. No controller is looked at. For `what_begins_a_charge`,
 -- `the_last_cmp_counts`, `not_above_the_station` and `no_request_above_the_station`.
 use Rattle.std.specs.Prelude.{ℕ, ◌+◌, ◌≤◌, ◌≡◌, Bool, true, cond, List, [], ◌∷◌}
+use Rattle.std.specs.Prelude.{Result, Ok, Err}
+use Rattle.numbers.specs.declared.Refusal.{Refusal}
+use Rattle.numbers.specs.Numbers.{answered}
 use Rattle.messages.specs.declared.received.Charge.TheVariants as charge
 use Rattle.units.specs.declared.TenthAmps.{TenthAmps}
 use Rattle.settings.specs.declared.Settings.{Settings}
@@ -10,8 +13,6 @@ use Rattle.frames.specs.declared.Frame.{Frame}
 use Rattle.charge_messages.specs.declared.Offer.{Offer}
 use Rattle.charge_messages.specs.declared.ChargeMessage.{ChargeMessage}
 use Rattle.charge_messages.specs.declared.ChargeMessage.TheVariants.{Cim, Cvm, Cmp, Crm, Ccs, Cst, Cem}
-use Rattle.charge_messages.specs.declared.Content.{Content}
-use Rattle.charge_messages.specs.declared.Content.TheVariants as content
 use Rattle.charge_messages.specs.Content.{content_of}
 use Rattle.session_states.specs.declared.states.State.{State}
 use Rattle.session_states.specs.declared.states.State.TheVariants.{Charging}
@@ -42,9 +43,9 @@ offer_in (Ccs b) = NoOffer
 offer_in (Cst b) = NoOffer
 offer_in Cem = NoOffer
 
-unfoldable pub offer_of : Content → LastOffer
-offer_of (content.Allowed m) = offer_in m
-offer_of (content.Refused n) = NoOffer
+unfoldable pub offer_of : Result ChargeMessage Refusal → LastOffer
+offer_of (Ok m) = offer_in m
+offer_of (Err refusal) = NoOffer
 
 -- the offer in a call's data, read as a CMP's
 unfoldable pub offer_by : Call → LastOffer

@@ -5,7 +5,7 @@ use Rattle.messages.specs.Identifier.{parts_of}
 use Rattle.charge_messages.specs.declared.ChargeMessage.TheVariants.{Cim}
 use Rattle.session.specs.Session.{opened}
 use Rattle.controller.specs.declared.Controller.{Controller}
-use Rattle.controller.specs.declared.Answer.{Answer}
+use Rattle.controller.specs.Frame.{Answer}
 use Rattle.refusals.specs.Frame.{listed}
 use Rattle.demands.specs.After.{is_charge}
 use Rattle.demands.specs.Says.{Says}

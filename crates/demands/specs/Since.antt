@@ -1,12 +1,11 @@
 -- "Over any sequence of calls from the start" (demand 2): the controller in use after calls that were made, and the
 -- controllers after further ones. For every statement that begins "after any calls from the start".
 use Rattle.std.specs.Prelude.{ℕ, ◌≡◌, List, [], ◌∷◌, ◌++◌}
+use Rattle.std.specs.Prelude.{Result, Ok, Err}
+use Rattle.numbers.specs.declared.Refusal.{Refusal}
 use Rattle.settings.specs.declared.Settings.{Settings}
-use Rattle.settings.specs.declared.SettingsRead.TheVariants as read
 use Rattle.settings.specs.Read.{read_of}
 use Rattle.controller.specs.declared.Controller.{Controller}
-use Rattle.controller.specs.declared.Start.{Start}
-use Rattle.controller.specs.declared.Start.TheVariants.{Made, Refused}
 use Rattle.controller.specs.Start.{fresh_of}
 use Rattle.demands.specs.Machine.{Call, Read, NoController, Using}
 use Rattle.demands.specs.After.{after_all}
@@ -21,9 +20,9 @@ pub record AfterCalls (ms : List CallMade) (c : Controller) : Type 0 where
 
 -- the controller in use after one call more: the one that the answer holds; of a refused record, and after a write, the
 -- one that was
-unfoldable pub made_or : Start → Controller → Controller
-made_or (Made d) c = d
-made_or (Refused n) c = c
+unfoldable pub made_or : Result Controller Refusal → Controller → Controller
+made_or (Ok d) c = d
+made_or (Err refusal) c = c
 
 unfoldable pub use_then : Controller → CallMade → Controller
 use_then c (DidRead s a) = made_or a c
@@ -44,5 +43,5 @@ pub record Since (ks : List Call) (c : Controller) : Type 0 where
   pub later : List Call
   pub split : ks ≡ before ++ (Read bytes ∷ later)
   pub settings : Settings
-  pub taken : read_of bytes ≡ read.Read settings
+  pub taken : read_of bytes ≡ Ok settings
   pub run : after_all (fresh_of settings) later ≡ c

@@ -5,11 +5,12 @@
 -- line; a theorem's name is its statement's, in small letters. A message's flag is true where its byte is AA, of CCS
 -- 01: `Cst true` is CST AA, `Crm false` is CRM 00 or FF.
 use Rattle.std.specs.Prelude.{ℕ, ◌≤◌, ◌⊎◌, ◌≡◌, Bool, true, false, cond, List, ◌∷◌, ◌++◌, map, ℤ}
+use Rattle.std.specs.Prelude.{Ok}
+use Rattle.numbers.specs.Numbers.{answered}
 use Rattle.units.specs.declared.TenthAmps.{TenthAmps}
 use Rattle.messages.specs.Table.{EST}
 use Rattle.messages.specs.Identifier.{parts_of}
 use Rattle.settings.specs.declared.Settings.{Settings}
-use Rattle.settings.specs.declared.SettingsRead.TheVariants as read
 use Rattle.settings.specs.Read.{read_of}
 use Rattle.readings.specs.declared.Readings.{Readings}
 use Rattle.cells.specs.Summaries.{cells_of}
@@ -24,8 +25,8 @@ use Rattle.session.specs.Session.{opened}
 use Rattle.session.specs.Message.{session_after}
 use Rattle.refusals.specs.Frame.{listed}
 use Rattle.controller.specs.declared.Controller.{Controller}
-use Rattle.controller.specs.declared.Answer.{Answer}
-use Rattle.controller.specs.declared.Ticked.{Ticked}
+use Rattle.controller.specs.Frame.{Answer}
+use Rattle.controller.specs.Tick.{Ticked}
 use Rattle.controller.specs.With.{with_session}
 use Rattle.controller.specs.Frame.{may_charge}
 use Rattle.controller.specs.Tick.{charge_frames, broadcast_frames, cell_frames}
@@ -408,7 +409,7 @@ pub record CanBeMade (bytes : List ℕ) (ks : List Call) : Type 0 where
   pub same : calls_in calls ≡ Read bytes ∷ ks
 
 abbrev pub AnyCallsCanBeMade : Type 0
-AnyCallsCanBeMade = (bytes : List ℕ) (x : Settings) (ks : List Call) → read_of bytes ≡ read.Read x → CanBeMade bytes ks
+AnyCallsCanBeMade = (bytes : List ℕ) (x : Settings) (ks : List Call) → read_of bytes ≡ Ok x → CanBeMade bytes ks
 
 -- "there is a run that ends by an acknowledged stop": calls from the start after which a session is in Stopping and an
 -- EST of ours has gone out since Stopping began; and a frame by which its station then says CST AA, which is taken and

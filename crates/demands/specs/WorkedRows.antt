@@ -24,7 +24,7 @@ use Rattle.charge_messages.specs.declared.Offer.{Offer}
 use Rattle.session_by_message.specs.Offer.{offered_tenths, accepted_of, station_maximum}
 use Rattle.session_frames.specs.Layouts.{hold_voltage, ecr_frame, ecr_of, ecs_of, eim_of, eem_of}
 use Rattle.broadcasts.specs.Layouts.{ps_of}
-use Rattle.queries.specs.declared.Kind.TheVariants.{Voltages, Temperatures}
+use Rattle.messages.specs.declared.received.Kind.TheVariants.{Voltages, Temperatures}
 use Rattle.queries.specs.declared.Query.{Query}
 use Rattle.queries.specs.Answering.{group_frame, past_end, at_last}
 use Rattle.session_states.specs.Limits.{drive_limit, rest_limit}
