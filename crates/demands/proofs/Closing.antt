@@ -1,6 +1,7 @@
 -- "Stopping and Error end to Idle at count 600", whatever anyone sends, and "Stopping EST each tick" (specs/Closing.antt).
 -- No message gives a session in Stopping or in Error more ticks, and each accepted tick takes one. Assumes nothing.
 use Prim.Native.Nat.{ℕ, ◌+◌, ◌-◌, ◌≤◌}
+use Rattle.std.proofs.Common.{Option, Some, None}
 use Rattle.std.proofs.Common.{Result, Ok, Err}
 use Rattle.numbers.specs.declared.Refusal.{Refusal}
 use native.Mathlib.Omega.{arith}
@@ -22,7 +23,6 @@ use Rattle.charge_messages.specs.declared.ChargeMessage.{ChargeMessage}
 use Rattle.charge_messages.specs.declared.ChargeMessage.TheVariants.{Cim, Cvm, Cmp, Crm, Ccs, Cst, Cem}
 use Rattle.session_states.specs.Limits.{closing_limit}
 use Rattle.session_states.specs.declared.states.Est.{Est}
-use Rattle.session_states.specs.declared.states.Est.TheVariants.{Awaited, Fixed}
 use Rattle.session_states.specs.declared.states.State.{State}
 use Rattle.session_states.specs.declared.states.State.TheVariants.{Idle, Offered, Unverified, Parameters, Ready, Charging, Stopping, Error}
 use Rattle.session_states.specs.States.{is_idle, is_stopping, is_closing}
@@ -220,11 +220,11 @@ closing_ends ps c ms a n h l =
     ends_made ps c ms a n (closing_open c h) ∙ closing_ends_by (calls_in ms) c h (omega (arith, l))
 
 -- ---- Stopping sends an EST at each tick
-own_est : (x : Settings) (station : ℕ) (k : Bool) (e : Est) (fs : List Frame)
+own_est : (x : Settings) (station : ℕ) (k : Bool) (e : (Option Est)) (fs : List Frame)
     → holds (is_ours EST x station) (est_bytes x station k e ∷ fs) ≡ true
 unfolding holds is_ours est_bytes est_frame
-own_est x station k Awaited fs = or_left _ _ (eq-eqb (identifier_of EST station x.own) _ refl)
-own_est x station k (Fixed a b) fs = or_left _ _ (eq-eqb (identifier_of EST station x.own) _ refl)
+own_est x station k None fs = or_left _ _ (eq-eqb (identifier_of EST station x.own) _ refl)
+own_est x station k (Some bytes) fs = or_left _ _ (eq-eqb (identifier_of EST station x.own) _ refl)
 
 module _ (x : Settings) (r : Readings) (c : Cells) (others : List Frame) where
   abbrev Sends : ℕ → List Frame → Type 0

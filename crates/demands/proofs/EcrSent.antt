@@ -1,6 +1,7 @@
 -- Which ECRs a tick sends: none but that of the phase that it leads to. So a law of this one is a law of every ECR among
 -- the frames of a tick. Assumes nothing.
 use Prim.Native.Nat.{ℕ, ◌+◌, ◌*◌, ◌/◌, ◌%◌, ◌<◌}
+use Rattle.std.proofs.Common.{Option, Some, None}
 use native.Mathlib.Omega.{arith}
 use mathlib.Core.Path.{◌≡◌, refl, sym, ap, ◌∙◌}
 use mathlib.Core.Bool.{Bool, true, false, cond, false≢true}
@@ -23,7 +24,6 @@ use Rattle.refusals.proofs.Fine.{fine}
 use Rattle.session_states.specs.Limits.{first_ecp}
 use Rattle.session_states.specs.declared.phases.Phase.{Phase}
 use Rattle.session_states.specs.declared.states.Est.{Est}
-use Rattle.session_states.specs.declared.states.Est.TheVariants.{Awaited, Fixed}
 use Rattle.session_states.specs.declared.states.State.{State}
 use Rattle.session_states.specs.declared.states.State.TheVariants.{Idle, Offered, Unverified, Parameters, Ready, Charging, Stopping, Error}
 use Rattle.session_by_tick.specs.declared.Turn.{Turn}
@@ -58,10 +58,10 @@ module _ (Q : Frame → Type 0) (x : Settings) where
     unfolding eim_of
     eim_not on = other 0x27 6 _ (omega arith) (omega arith) refl
 
-    est_not : (y : Bool) (e : Est) → IfEcr (est_bytes x station y e)
+    est_not : (y : Bool) (e : (Option Est)) → IfEcr (est_bytes x station y e)
     unfolding est_bytes est_frame
-    est_not y Awaited = other 0x15 4 _ (omega arith) (omega arith) refl
-    est_not y (Fixed first second) = other 0x15 4 _ (omega arith) (omega arith) refl
+    est_not y None = other 0x15 4 _ (omega arith) (omega arith) refl
+    est_not y (Some bytes) = other 0x15 4 _ (omega arith) (omega arith) refl
 
     fifth : (n : ℕ) (fs : List Frame) → Each IfEcr fs → Each IfEcr (each5 n fs)
     unfolding each5

@@ -3,6 +3,7 @@
 -- has been sent, a CMP in Parameters only if an ECP has, a CRM in Ready only if an ERM AA has been sent since the last
 -- CMP. Assumes nothing.
 use Prim.Native.Nat.{ℕ, ◌+◌}
+use Rattle.std.proofs.Common.{Option, Some, None}
 use Rattle.numbers.specs.Numbers.{answered}
 use native.Mathlib.Omega.{arith}
 use mathlib.Core.Path.{◌≡◌, refl, sym, ap, ◌∙◌}
@@ -26,7 +27,6 @@ use Rattle.charge_messages.specs.declared.Offer.{Offer}
 use Rattle.session_states.specs.Limits.{first_ecp}
 use Rattle.session_states.specs.States.{is_idle, is_stopping, is_offered, is_parameters, is_ready}
 use Rattle.session_states.specs.declared.states.Est.{Est}
-use Rattle.session_states.specs.declared.states.Est.TheVariants.{Awaited, Fixed}
 use Rattle.session_states.specs.declared.states.State.{State}
 use Rattle.session_states.specs.declared.states.State.TheVariants.{Idle, Offered, Unverified, Parameters, Ready, Charging, Stopping, Error}
 use Rattle.session_states.specs.declared.phases.Phase.{Phase}
@@ -99,11 +99,11 @@ module _ (x : Settings) (station n : ℕ) (others : List Frame) where
   unfolding erm erm_of says_yes
   erm_first h = rw (at_first n (erm_of x station true ∷ []) h) (first_holds (erm.ours x station) (erm_of x station true) others (rw (own_is ERM x station _)))
 
-  est_always : (r : Readings) (k : Cells) (y : Bool) (e : Est)
+  est_always : (r : Readings) (k : Cells) (y : Bool) (e : (Option Est))
       → holds (est.ours x station) (stopping_frames x r k station n y e ++ others) ≡ true
   unfolding est stopping_frames est_bytes est_frame
-  est_always r k y Awaited = first_holds (est.ours x station) _ _ (own_is EST x station _)
-  est_always r k y (Fixed a b) = first_holds (est.ours x station) _ _ (own_is EST x station _)
+  est_always r k y None = first_holds (est.ours x station) _ _ (own_is EST x station _)
+  est_always r k y (Some bytes) = first_holds (est.ours x station) _ _ (own_is EST x station _)
 
 -- no message begins the state anew: of any state but Ready
 module _ (here : State → Bool) (at : ℕ) (elsewhere : at ≡ 4 → ⊥) (here_at : (st : State) → here st ≡ true → place st ≡ at) where
@@ -187,7 +187,7 @@ ecp_law =
 -- ---- Stopping: EST
 record IsStopping (st : State) : Type 0 where
   acknowledged : Bool
-  bytes : Est
+  bytes : Option Est
   is : st ≡ Stopping acknowledged bytes
 
 stopping_is : (st : State) → is_stopping st ≡ true → IsStopping st

@@ -1,6 +1,10 @@
 -- How a session gets from one of the eight states to the next, by a message and by a tick, as far as "gone out" asks:
 -- a state goes on, with its count kept, or another begins. Assumes nothing.
 use Prim.Native.Nat.{ℕ, ◌+◌}
+use Rattle.std.proofs.Common.{Option}
+use Rattle.std.specs.declared.ops.ControlFlow.{ControlFlow}
+use Rattle.session_states.specs.declared.phases.Cause.{Cause}
+use Rattle.std.specs.declared.ops.ControlFlow.TheVariants.{Continue, Break}
 use Rattle.std.proofs.Common.{Result, Ok, Err}
 use Rattle.numbers.specs.declared.Refusal.{Refusal}
 use Rattle.messages.specs.declared.received.Message.{Message}
@@ -19,8 +23,6 @@ use Rattle.session_states.specs.Limits.{silence_limit, closing_limit}
 use Rattle.session_states.specs.Phases.{phase_after}
 use Rattle.session_states.specs.States.{is_stopping}
 use Rattle.session_states.specs.declared.phases.Phase.{Phase}
-use Rattle.session_states.specs.declared.phases.PhaseAfter.{PhaseAfter}
-use Rattle.session_states.specs.declared.phases.PhaseAfter.TheVariants as phase
 use Rattle.session_states.specs.declared.states.Est.{Est}
 use Rattle.session_states.specs.declared.states.State.{State}
 use Rattle.session_states.specs.declared.states.State.TheVariants.{Idle, Offered, Unverified, Parameters, Ready, Charging, Stopping, Error}
@@ -52,7 +54,7 @@ place Error = 7
 pub data Alike : State → State → Type 0 where
   AsItWas : {st : State} → Alike st st
   OtherPhase : {p q : Phase} → Alike (Charging p) (Charging q)
-  OtherMarks : {k l : Bool} {e f : Est} → Alike (Stopping k e) (Stopping l f)
+  OtherMarks : {k l : Bool} {e f : (Option Est)} → Alike (Stopping k e) (Stopping l f)
 
 stopping_place : (st : State) → place st ≡ 6 → is_stopping st ≡ true
 unfolding place is_stopping
@@ -170,7 +172,7 @@ pick true a b h k = h
 pick false a b h k = k
 
 -- Charging, Stopping and Error are three
-stops : (p : Phase) (k : Bool) (e : Est) → Goes (Charging p) (turn.Enter (Stopping k e))
+stops : (p : Phase) (k : Bool) (e : (Option Est)) → Goes (Charging p) (turn.Enter (Stopping k e))
 unfolding place
 stops p k e = Begins {st = Charging p} {to = Stopping k e} (λ h. omega (arith, h))
 
@@ -183,10 +185,10 @@ module _ (x : Settings) (r : Readings) (c : Cells) where
   unfolding waiting_of
   wait_goes silence st h = pick (leb silence_limit silence) _ _ (fails st h) (pick (wanted_of r) _ _ (GoesOn AsItWas) Farewells)
 
-  phase_goes : (p : Phase) (a : PhaseAfter) → Goes (Charging p) (phase_on x r c a)
+  phase_goes : (p : Phase) (a : (ControlFlow Cause Phase)) → Goes (Charging p) (phase_on x r c a)
   unfolding phase_on stop_of
-  phase_goes p (phase.On q) = GoesOn OtherPhase
-  phase_goes p (phase.Stop cause) = stops p _ _
+  phase_goes p (Continue q) = GoesOn OtherPhase
+  phase_goes p (Break cause) = stops p _ _
 
   pub turn_goes : (st : State) (n silence : ℕ) → Goes st (turn_of x r c st n silence)
   unfolding turn_of charging_of stops_of phase_turn stop_of stopping_of error_of place

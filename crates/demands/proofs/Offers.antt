@@ -2,6 +2,9 @@
 -- yes or no and the station's maximum are those of its offer, and in Charging no more is asked than it offers. Assumes
 -- nothing.
 use Prim.Native.Nat.{ℕ, ◌≤◌}
+use Rattle.std.specs.declared.ops.ControlFlow.{ControlFlow}
+use Rattle.session_states.specs.declared.phases.Cause.{Cause}
+use Rattle.std.specs.declared.ops.ControlFlow.TheVariants.{Continue, Break}
 use Rattle.std.proofs.Common.{Result, Ok, Err}
 use Rattle.numbers.specs.declared.Refusal.{Refusal}
 use native.Mathlib.Omega.{arith}
@@ -29,8 +32,6 @@ use Rattle.charge_messages.specs.Content.{content_of}
 use Rattle.session_states.specs.Limits.{first_ecp}
 use Rattle.session_states.specs.declared.phases.Phase.{Phase}
 use Rattle.session_states.specs.declared.phases.Phase.TheVariants.{Drive, Hold}
-use Rattle.session_states.specs.declared.phases.PhaseAfter.{PhaseAfter}
-use Rattle.session_states.specs.declared.phases.PhaseAfter.TheVariants as phase
 use Rattle.session_states.specs.Phases.{too_small, start_phase, phase_after}
 use Rattle.session_states.specs.declared.states.State.{State}
 use Rattle.session_states.specs.declared.states.State.TheVariants.{Idle, Offered, Unverified, Parameters, Ready, Charging, Stopping, Error}
@@ -191,13 +192,13 @@ module _ (x : Settings) (n : ℕ) where
 -- ---- a tick asks no more than was asked
 module _ (x : Settings) (r : Readings) (c : Cells) where
   module _ (l : LastOffer) where
-    charges_held : (p : Phase) (q : PhaseAfter) (to : State) → ChargesAs x r c q to → request_in to ≤ request_of p
+    charges_held : (p : Phase) (q : (ControlFlow Cause Phase)) (to : State) → ChargesAs x r c q to → request_in to ≤ request_of p
         → Held x l (Charging p) → Held x l to
     unfolding ChargesAs Held request_in
-    charges_held p (phase.On k) to e a h =
+    charges_held p (Continue k) to e a h =
         subst (Held x l) (sym e)
         (record { offer = h.offer; made = h.made; within = omega (arith, h.within, ap request_in e, a) })
-    charges_held p (phase.Stop cause) to e a h = absurd e
+    charges_held p (Break cause) to e a h = absurd e
 
     on_held : (from to : State) → GoesOnAs x r c from to → request_in to ≤ request_in from → Held x l from → Held x l to
     unfolding GoesOnAs Held request_in

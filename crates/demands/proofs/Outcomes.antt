@@ -1,6 +1,7 @@
 -- What a charge message may come to, state by state (01, "Session by message"), told once, by the cases that every
 -- statement over all messages goes by. Assumes nothing.
 use Prim.Native.Nat.{ℕ}
+use Rattle.std.proofs.Common.{Option, None}
 use mathlib.Core.Path.{◌≡◌, refl}
 use mathlib.Core.Bool.{Bool, true, false, cond, ◌&&◌}
 use lib.Dec.{ltb}
@@ -11,7 +12,6 @@ use Rattle.charge_messages.specs.declared.ChargeMessage.{ChargeMessage}
 use Rattle.charge_messages.specs.declared.ChargeMessage.TheVariants.{Cim, Cvm, Cmp, Crm, Ccs, Cst, Cem}
 use Rattle.session_states.specs.Phases.{start_phase}
 use Rattle.session_states.specs.declared.states.Est.{Est}
-use Rattle.session_states.specs.declared.states.Est.TheVariants.{Awaited}
 use Rattle.session_states.specs.declared.states.State.{State}
 use Rattle.session_states.specs.declared.states.State.TheVariants.{Idle, Offered, Unverified, Parameters, Ready, Charging, Stopping, Error}
 use Rattle.session_by_message.specs.declared.Outcome.{Outcome}
@@ -34,8 +34,8 @@ module _ (x : Settings) (n : ℕ) where
     ToReadyAgain : {y z : Bool} {maximum k : TenthAmps} → Leads (Ready y maximum) (Enter (Ready z k))
     ToCharging : {y : Bool} {maximum : TenthAmps} → ltb 0 n ≡ true
         → Leads (Ready y maximum) (Enter (Charging (start_phase x.limits.current maximum)))
-    ToStopping : {st : State} {k : Bool} → is_stopping st ≡ false → Leads st (Enter (Stopping k Awaited))
-    MarksIt : {k : Bool} {e : Est} → Leads (Stopping k e) (Keep (Stopping true e))
+    ToStopping : {st : State} {k : Bool} → is_stopping st ≡ false → Leads st (Enter (Stopping k None))
+    MarksIt : {k : Bool} {e : (Option Est)} → Leads (Stopping k e) (Keep (Stopping true e))
     EndsIt : {st : State} → Leads st End
 
   pick : {st : State} (t : Bool) (o p : Outcome) → (t ≡ true → Leads st o) → Leads st p → Leads st (cond t o p)

@@ -4,6 +4,9 @@
 -- accepted tick raises it by one at the most. That eight are enough is `eight_are_enough` (proofs/ReachRun.antt).
 -- Assumes nothing.
 use Prim.Native.Nat.{ℕ, ◌+◌, ◌≤◌}
+use Rattle.std.specs.declared.ops.ControlFlow.{ControlFlow}
+use Rattle.session_states.specs.declared.phases.Phase.{Phase}
+use Rattle.std.specs.declared.ops.ControlFlow.TheVariants.{Continue, Break}
 use Rattle.std.proofs.Common.{Result, Ok, Err}
 use Rattle.numbers.specs.declared.Refusal.{Refusal}
 use native.Mathlib.Omega.{arith}
@@ -24,8 +27,6 @@ use Rattle.cells.specs.Summaries.{cells_of}
 use Rattle.charge_messages.specs.declared.ChargeMessage.{ChargeMessage}
 use Rattle.session_states.specs.declared.phases.Cause.{Cause}
 use Rattle.session_states.specs.declared.phases.Cause.TheVariants.{PackVoltage, Other}
-use Rattle.session_states.specs.declared.phases.PhaseAfter.{PhaseAfter}
-use Rattle.session_states.specs.declared.phases.PhaseAfter.TheVariants as phase
 use Rattle.session_states.specs.Phases.{phase_after}
 use Rattle.session_states.specs.declared.states.State.{State}
 use Rattle.session_states.specs.declared.states.State.TheVariants.{Idle, Offered, Unverified, Parameters, Ready, Charging, Stopping, Error}
@@ -157,12 +158,12 @@ closing_needs s st false = next_on s st
 
 module _ (x : Settings) (r : Readings) (c : Cells) (s : Session) where
   -- Charging goes on or stops
-  phase_needs : (q : PhaseAfter) → next s (phase_on x r c q) ≤ 8 + 1
+  phase_needs : (q : (ControlFlow Cause Phase)) → next s (phase_on x r c q) ≤ 8 + 1
   unfolding phase_on needs
-  phase_needs (phase.On p) = next_on s (Charging p)
-  phase_needs (phase.Stop k) = omega (arith, next_stop x r c s k)
+  phase_needs (Continue p) = next_on s (Charging p)
+  phase_needs (Break k) = omega (arith, next_stop x r c s k)
 
-  charging_turn : (q : PhaseAfter) (silent wanted above full : Bool)
+  charging_turn : (q : (ControlFlow Cause Phase)) (silent wanted above full : Bool)
       → next s (cond silent (turn.Enter Error)
       (cond wanted (cond above (stop_of x r c Other) (cond full (stop_of x r c PackVoltage) (phase_on x r c q))) (stop_of x r c Other)))
       ≤ 8 + 1

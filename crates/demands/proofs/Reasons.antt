@@ -1,6 +1,9 @@
 -- What a tick makes of each state, by the first of the paper's rules that holds: the reason of specs/Stops.antt leads
 -- where it says. Assumes nothing.
 use Prim.Native.Nat.{ℕ}
+use Rattle.std.specs.declared.ops.ControlFlow.{ControlFlow}
+use Rattle.session_states.specs.declared.phases.Cause.{Cause}
+use Rattle.std.specs.declared.ops.ControlFlow.TheVariants.{Continue, Break}
 use mathlib.Core.Path.{◌≡◌, refl, subst}
 use mathlib.Core.Bool.{Bool, true, false, cond, ◌&&◌, ◌||◌}
 use lib.Dec.{leb}
@@ -13,8 +16,6 @@ use Rattle.cells.specs.declared.Cells.{Cells}
 use Rattle.session_states.specs.declared.phases.Phase.{Phase}
 use Rattle.session_states.specs.declared.phases.Phase.TheVariants.{Drive, Rest, Hold}
 use Rattle.session_states.specs.declared.phases.Cause.TheVariants.{PackVoltage, HoldCell, Other}
-use Rattle.session_states.specs.declared.phases.PhaseAfter.{PhaseAfter}
-use Rattle.session_states.specs.declared.phases.PhaseAfter.TheVariants as phase
 use Rattle.session_states.specs.Phases.{too_small, drive_rules, hold_rules, after_rest, phase_after}
 use Rattle.session_states.specs.declared.states.State.{State}
 use Rattle.session_states.specs.declared.states.State.TheVariants.{Idle, Offered, Unverified, Parameters, Ready, Charging, Stopping, Error}
@@ -29,31 +30,31 @@ use Rattle.demands.specs.Stops.{Why, GoesOn, AtSilenceLimit, NotWantedBefore, No
 use Rattle.demands.specs.Stops.{time_up, in_hold, why_in, why_of, ChargesAs, GoesOnAs, LeadsTo}
 
 -- ---- what a phase comes to
-unfoldable turned_why : PhaseAfter → Why
-turned_why (phase.On p) = GoesOn
-turned_why (phase.Stop PackVoltage) = PackFull
-turned_why (phase.Stop HoldCell) = CellFull
-turned_why (phase.Stop Other) = TimeUp
+unfoldable turned_why : ControlFlow Cause Phase → Why
+turned_why (Continue p) = GoesOn
+turned_why (Break PackVoltage) = PackFull
+turned_why (Break HoldCell) = CellFull
+turned_why (Break Other) = TimeUp
 
 abbrev phase_why : Bool → Bool → Why
 phase_why time cell = cond time TimeUp (cond cell CellFull GoesOn)
 
 drive_why : (up full : Bool) (d e : Phase)
-    → turned_why (cond up (phase.Stop Other) (cond full (phase.On d) (phase.On e))) ≡ phase_why up (false && full)
+    → turned_why (cond up (Break Other) (cond full (Continue d) (Continue e))) ≡ phase_why up (false && full)
 unfolding turned_why
 drive_why true full d e = refl
 drive_why false true d e = refl
 drive_why false false d e = refl
 
 hold_why : (up full : Bool) (d : Phase)
-    → turned_why (cond up (phase.Stop Other) (cond full (phase.Stop HoldCell) (phase.On d))) ≡ phase_why up (true && full)
+    → turned_why (cond up (Break Other) (cond full (Break HoldCell) (Continue d))) ≡ phase_why up (true && full)
 unfolding turned_why
 hold_why true full d = refl
 hold_why false true d = refl
 hold_why false false d = refl
 
 rest_why : (over small done full : Bool) (request : TenthAmps) (cycle : ℕ) (d : Phase)
-    → turned_why (cond over (cond small (hold_rules 0 full) (cond done (hold_rules 0 full) (drive_rules request cycle 0 full))) (phase.On d))
+    → turned_why (cond over (cond small (hold_rules 0 full) (cond done (hold_rules 0 full) (drive_rules request cycle 0 full))) (Continue d))
     ≡ phase_why false ((over && (small || done)) && full)
 unfolding turned_why hold_rules drive_rules
 rest_why false small done full request cycle d = refl
@@ -83,7 +84,7 @@ module _ (x : Settings) (r : Readings) (c : Cells) (s : Session) where
   wait_why st false true h = h
   wait_why st false false h = refl
 
-  charge_why : (p : Phase) (late wanted above full : Bool) (t : PhaseAfter) → phase_after p (cell_full x c) ≡ t
+  charge_why : (p : Phase) (late wanted above full : Bool) (t : (ControlFlow Cause Phase)) → phase_after p (cell_full x c) ≡ t
       → LeadsTo x r c (Charging p)
       (cond late AtSilenceLimit (cond wanted (cond above CurrentAbove (cond full PackFull (turned_why t))) NotWantedCharging))
       (reached
@@ -94,10 +95,10 @@ module _ (x : Settings) (r : Readings) (c : Cells) (s : Session) where
   charge_why p false false above full t e = refl
   charge_why p false true true full t e = refl
   charge_why p false true false true t e = refl
-  charge_why p false true false false (phase.On q) e = rw e
-  charge_why p false true false false (phase.Stop PackVoltage) e = refl
-  charge_why p false true false false (phase.Stop HoldCell) e = refl
-  charge_why p false true false false (phase.Stop Other) e = refl
+  charge_why p false true false false (Continue q) e = rw e
+  charge_why p false true false false (Break PackVoltage) e = refl
+  charge_why p false true false false (Break HoldCell) e = refl
+  charge_why p false true false false (Break Other) e = refl
 
   close_why : (st to : State) (over : Bool) → GoesOnAs x r c st (reached (On to))
       → LeadsTo x r c st (cond over AtClosingLimit GoesOn) (reached (cond over End (On to)))

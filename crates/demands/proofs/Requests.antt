@@ -2,6 +2,9 @@
 -- never above the maximum current of the settings in use; and tag 3 allows no more than 4000 (`read_in_range`,
 -- settings), so 4000 minus it is what ECR says. Assumes nothing.
 use Prim.Native.Nat.{ℕ, ◌≤◌}
+use Rattle.std.specs.declared.ops.ControlFlow.{ControlFlow}
+use Rattle.session_states.specs.declared.phases.Cause.{Cause}
+use Rattle.std.specs.declared.ops.ControlFlow.TheVariants.{Continue, Break}
 use Rattle.std.proofs.Common.{Result, Ok, Err}
 use Rattle.numbers.specs.declared.Refusal.{Refusal}
 use native.Mathlib.Omega.{arith}
@@ -22,8 +25,6 @@ use Rattle.cells.specs.declared.Cells.{Cells}
 use Rattle.cells.specs.Summaries.{cells_of}
 use Rattle.session_states.specs.declared.phases.Phase.{Phase}
 use Rattle.session_states.specs.declared.phases.Phase.TheVariants.{Drive, Rest, Hold}
-use Rattle.session_states.specs.declared.phases.PhaseAfter.{PhaseAfter}
-use Rattle.session_states.specs.declared.phases.PhaseAfter.TheVariants as phase
 use Rattle.session_states.specs.Phases.{too_small, start_phase, drive_rules, hold_rules, after_rest, phase_after}
 use Rattle.session_states.specs.declared.states.State.{State}
 use Rattle.session_states.specs.declared.states.State.TheVariants.{Idle, Offered, Unverified, Parameters, Ready, Charging, Stopping, Error}
@@ -119,11 +120,11 @@ module _ (x : Settings) (n : ℕ) where
   after_asks source s outcome.End h k = omega arith
 
 -- ---- a tick
-unfoldable phase_asks : PhaseAfter → ℕ
-phase_asks (phase.On p) = request_of p
-phase_asks (phase.Stop cause) = 0
+unfoldable phase_asks : ControlFlow Cause Phase → ℕ
+phase_asks (Continue p) = request_of p
+phase_asks (Break cause) = 0
 
-lower : (m : ℕ) (t : Bool) (a b : PhaseAfter) → phase_asks a ≤ m → phase_asks b ≤ m → phase_asks (cond t a b) ≤ m
+lower : (m : ℕ) (t : Bool) (a b : (ControlFlow Cause Phase)) → phase_asks a ≤ m → phase_asks b ≤ m → phase_asks (cond t a b) ≤ m
 lower m true a b h k = h
 lower m false a b h k = k
 
@@ -136,7 +137,7 @@ hold_rules_ask : (m time : ℕ) (full : Bool) → phase_asks (hold_rules time fu
 unfolding phase_asks hold_rules request_of
 hold_rules_ask m time full = lower m (leb hold_limit time) _ _ (omega arith) (lower m full _ _ (omega arith) (omega arith))
 
-rest_asks : (request : TenthAmps) (cycle time : ℕ) → phase_asks (phase.On (Rest request cycle time)) ≤ request.0
+rest_asks : (request : TenthAmps) (cycle time : ℕ) → phase_asks (Continue (Rest request cycle time)) ≤ request.0
 unfolding phase_asks request_of
 rest_asks request cycle time = omega arith
 
@@ -176,10 +177,10 @@ older_asks (Rest request cycle time) = refl
 older_asks (Hold time) = refl
 
 module _ (x : Settings) (r : Readings) (c : Cells) where
-  phase_asks_lem : (m : ℕ) (t : PhaseAfter) → phase_asks t ≤ m → turn_asks (phase_on x r c t) ≤ m
+  phase_asks_lem : (m : ℕ) (t : (ControlFlow Cause Phase)) → phase_asks t ≤ m → turn_asks (phase_on x r c t) ≤ m
   unfolding phase_asks turn_asks phase_on stop_of request_in
-  phase_asks_lem m (phase.On p) h = h
-  phase_asks_lem m (phase.Stop cause) h = omega arith
+  phase_asks_lem m (Continue p) h = h
+  phase_asks_lem m (Break cause) h = omega arith
 
   wait_asks : (m silence : ℕ) (st : State) → request_in st ≤ m → turn_asks (waiting_of r silence st) ≤ m
   unfolding turn_asks waiting_of request_in

@@ -1,6 +1,7 @@
 -- The frames of a tick, each by its row of the table and its eight bytes; and that they are read back off the buffer as
 -- they were sent. Assumes nothing.
 use Prim.Native.Nat.{ℕ, ◌+◌, ◌*◌, ◌/◌, ◌%◌}
+use Rattle.std.proofs.Common.{Option, Some, None}
 use native.Mathlib.Omega.{arith}
 use mathlib.Core.Path.{◌≡◌, refl}
 use mathlib.Core.Bool.{Bool, true, false, cond}
@@ -20,7 +21,6 @@ use Rattle.cells.specs.Summaries.{cells_of}
 use Rattle.session_states.specs.declared.phases.Phase.{Phase}
 use Rattle.session_states.specs.declared.phases.Phase.TheVariants.{Drive, Rest, Hold}
 use Rattle.session_states.specs.declared.states.Est.{Est}
-use Rattle.session_states.specs.declared.states.Est.TheVariants.{Awaited, Fixed}
 use Rattle.session_states.specs.declared.states.State.{State}
 use Rattle.session_states.specs.declared.states.State.TheVariants.{Idle, Offered, Unverified, Parameters, Ready, Charging, Stopping, Error}
 use Rattle.session_states.specs.Limits.{first_ecp}
@@ -130,11 +130,11 @@ module _ (These : Row → Type 0) (ten : Ten These) (x : Settings) (r : Readings
   unfolding esm_of
   esm_made station = Make ESM ten.esm _ _ _ _ _ _ _ _
 
-  est_made : (station : ℕ) (acknowledged : Bool) (est : Est)
+  est_made : (station : ℕ) (acknowledged : Bool) (est : (Option Est))
       → Made These station x.own (est_bytes x station acknowledged est)
   unfolding est_bytes est_frame
-  est_made station acknowledged Awaited = Make EST ten.est _ _ _ _ _ _ _ _
-  est_made station acknowledged (Fixed first second) = Make EST ten.est _ _ _ _ _ _ _ _
+  est_made station acknowledged None = Make EST ten.est _ _ _ _ _ _ _ _
+  est_made station acknowledged (Some bytes) = Make EST ten.est _ _ _ _ _ _ _ _
 
   edm_made : (station : ℕ) → Made These station x.own (edm_of x station r c)
   unfolding edm_of

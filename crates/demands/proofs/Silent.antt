@@ -2,6 +2,9 @@
 -- addresses send, and whatever the station sends that the session does not heed; and what it takes to live through 800
 -- (proofs/SilentRun.antt has such a run). Assumes nothing.
 use Prim.Native.Nat.{ℕ, zero, suc, ◌+◌, ◌-◌, ◌≤◌, ◌<◌}
+use Rattle.std.proofs.Common.{Option}
+use Rattle.std.specs.declared.ops.ControlFlow.{ControlFlow}
+use Rattle.std.specs.declared.ops.ControlFlow.TheVariants.{Continue, Break}
 use Rattle.std.proofs.Common.{Result, Ok, Err}
 use Rattle.numbers.specs.declared.Refusal.{Refusal}
 use native.Mathlib.Omega.{arith}
@@ -23,8 +26,6 @@ use Rattle.cells.specs.Tables.{every}
 use Rattle.session_states.specs.declared.phases.Phase.{Phase}
 use Rattle.session_states.specs.declared.phases.Cause.{Cause}
 use Rattle.session_states.specs.declared.phases.Cause.TheVariants.{PackVoltage, Other}
-use Rattle.session_states.specs.declared.phases.PhaseAfter.{PhaseAfter}
-use Rattle.session_states.specs.declared.phases.PhaseAfter.TheVariants as phase
 use Rattle.session_states.specs.Phases.{phase_after}
 use Rattle.session_states.specs.declared.states.Est.{Est}
 use Rattle.session_states.specs.declared.states.State.{State}
@@ -128,7 +129,7 @@ next_end : (s : Session) → next s turn.End ≡ 0
 unfolding next left left_in literal_advance literal_in turned_by
 next_end s = refl
 
-next_stopping : (s : Session) (a : Bool) (e : Est)
+next_stopping : (s : Session) (a : Bool) (e : (Option Est))
     → next s (turn.On (Stopping a e)) ≡ 1 + (closing_limit - (s.count + 1))
 unfolding next left left_in literal_advance literal_in counted turned_by
 next_stopping s a e = refl
@@ -149,11 +150,11 @@ falls_waiting r s st e = go (leb silence_limit s.silence) refl (wanted_of r)
     go false h false = omega (arith, next_farewell s)
 
 module _ (x : Settings) (r : Readings) (c : Cells) (s : Session) where
-  falls_phase : (q : PhaseAfter) → leb silence_limit s.silence ≡ false
+  falls_phase : (q : (ControlFlow Cause Phase)) → leb silence_limit s.silence ≡ false
       → next s (phase_on x r c q) < closing_limit + 1 + (silence_limit - s.silence)
   unfolding phase_on early
-  falls_phase (phase.On p) h = omega (arith, next_on s (Charging p) refl, leb-false silence_limit s.silence h)
-  falls_phase (phase.Stop k) h = omega (arith, next_stop x r c s k)
+  falls_phase (Continue p) h = omega (arith, next_on s (Charging p) refl, leb-false silence_limit s.silence h)
+  falls_phase (Break k) h = omega (arith, next_stop x r c s k)
 
   falls_charging : (p : Phase)
       → next s (charging_of x r c s.silence p) < closing_limit + 1 + (silence_limit - s.silence)
@@ -168,7 +169,7 @@ module _ (x : Settings) (r : Readings) (c : Cells) (s : Session) where
       go false h true false true = omega (arith, next_stop x r c s PackVoltage)
       go false h true false false = falls_phase (phase_after p (cell_full x c)) h
 
-  falls_stopping : (a : Bool) (e : Est) → next s (stopping_of x r c s.count a e) < 1 + (closing_limit - s.count)
+  falls_stopping : (a : Bool) (e : (Option Est)) → next s (stopping_of x r c s.count a e) < 1 + (closing_limit - s.count)
   unfolding stopping_of
   falls_stopping a e = go (leb closing_limit s.count) refl
     where

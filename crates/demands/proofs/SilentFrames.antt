@@ -2,6 +2,7 @@
 -- as it was, one that does returns its silence to 0. So a frame by which its station says nothing that is heeded leaves
 -- the session as it was. Assumes nothing.
 use Prim.Native.Nat.{ℕ}
+use Rattle.std.proofs.Common.{Option}
 use mathlib.Core.Path.{◌≡◌, refl, ap, sym, subst, ◌∙◌}
 use mathlib.Core.Bool.{Bool, true, false, ◌&&◌, false≢true}
 use mathlib.Core.List.{List}
@@ -94,7 +95,7 @@ module _ (x : Settings) (source : ℕ) (s : Session) (n : ℕ) where
   fits_charging p Cem = refl
 
   -- in Stopping a CST AA is refused until an EST has gone out
-  unfed_stopping : (a : Bool) (e : Est) (m : ChargeMessage) → feeds (Stopping a e) m ≡ false → in_stopping e n m ≡ Refuse
+  unfed_stopping : (a : Bool) (e : (Option Est)) (m : ChargeMessage) → feeds (Stopping a e) m ≡ false → in_stopping e n m ≡ Refuse
   unfolding in_stopping feeds
   unfed_stopping a e Cim h = refl
   unfed_stopping a e (Cvm b) h = refl
@@ -104,7 +105,7 @@ module _ (x : Settings) (source : ℕ) (s : Session) (n : ℕ) where
   unfed_stopping a e (Cst b) h = absurd (false≢true (sym h))
   unfed_stopping a e Cem h = absurd (false≢true (sym h))
 
-  fits_stopping : (a : Bool) (e : Est) (m : ChargeMessage) → ltb 0 n ≡ true
+  fits_stopping : (a : Bool) (e : (Option Est)) (m : ChargeMessage) → ltb 0 n ≡ true
       → Fits (feeds (Stopping a e) m) (in_stopping e n m)
   unfolding Fits silence_after session_after in_stopping feeds
   fits_stopping a e Cim g = refl

@@ -2,6 +2,10 @@
 -- any other message of the handshake holds one open in Charging. Whatever else comes, the session has ended within 801
 -- accepted ticks. Assumes nothing.
 use Prim.Native.Nat.{ℕ, ◌≤◌}
+use Rattle.std.proofs.Common.{Option}
+use Rattle.std.specs.declared.ops.ControlFlow.{ControlFlow}
+use Rattle.session_states.specs.declared.phases.Cause.{Cause}
+use Rattle.std.specs.declared.ops.ControlFlow.TheVariants.{Continue, Break}
 use Rattle.std.proofs.Common.{Result, Ok, Err}
 use Rattle.numbers.specs.declared.Refusal.{Refusal}
 use mathlib.Core.Path.{◌≡◌, refl, sym, ap, subst, ◌∙◌}
@@ -19,8 +23,6 @@ use Rattle.cells.specs.Summaries.{cells_of}
 use Rattle.charge_messages.specs.declared.ChargeMessage.{ChargeMessage}
 use Rattle.charge_messages.specs.declared.ChargeMessage.TheVariants.{Cim, Cvm, Cmp, Crm, Ccs, Cst, Cem}
 use Rattle.session_states.specs.declared.phases.Phase.{Phase}
-use Rattle.session_states.specs.declared.phases.PhaseAfter.{PhaseAfter}
-use Rattle.session_states.specs.declared.phases.PhaseAfter.TheVariants as phase
 use Rattle.session_states.specs.Phases.{phase_after}
 use Rattle.session_states.specs.declared.states.Est.{Est}
 use Rattle.session_states.specs.declared.states.State.{State}
@@ -50,7 +52,7 @@ either P false f g = g
 
 -- some states that no tick leaves, and in which the session heeds none of some messages
 module _ (among : State → Bool) (these : ChargeMessage → Bool)
-    (idle : among Idle ≡ true) (error : among Error ≡ true) (stopping : (a : Bool) (e : Est) → among (Stopping a e) ≡ true)
+    (idle : among Idle ≡ true) (error : among Error ≡ true) (stopping : (a : Bool) (e : (Option Est)) → among (Stopping a e) ≡ true)
     (charging : (p q : Phase) → among (Charging p) ≡ true → among (Charging q) ≡ true)
     (deaf : (st : State) (m : ChargeMessage) → among st ≡ true → these m ≡ true → feeds st m ≡ false) where
   unfoldable Stays : Turn → Type 0
@@ -82,10 +84,10 @@ module _ (among : State → Bool) (these : ChargeMessage → Bool)
     unfolding Stays waiting_of
     stays_waiting b st h = either Stays (leb silence_limit b) error (either Stays (wanted_of r) h tt)
 
-    stays_phase : (q : PhaseAfter) → ((p : Phase) → among (Charging p) ≡ true) → Stays (phase_on x r c q)
+    stays_phase : (q : (ControlFlow Cause Phase)) → ((p : Phase) → among (Charging p) ≡ true) → Stays (phase_on x r c q)
     unfolding Stays phase_on stop_of
-    stays_phase (phase.On p) h = h p
-    stays_phase (phase.Stop k) h = stopping _ _
+    stays_phase (Continue p) h = h p
+    stays_phase (Break k) h = stopping _ _
 
     stays_charging : (b : ℕ) (p : Phase) → among (Charging p) ≡ true → Stays (charging_of x r c b p)
     unfolding Stays charging_of stops_of phase_turn stop_of
@@ -251,7 +253,7 @@ deaf_charging p (Ccs b) h = absurd (false≢true h)
 deaf_charging p (Cst b) h = absurd (false≢true h)
 deaf_charging p Cem h = absurd (false≢true h)
 
-deaf_stopping : (a : Bool) (e : Est) (m : ChargeMessage) → is_handshake m ≡ true → feeds (Stopping a e) m ≡ false
+deaf_stopping : (a : Bool) (e : (Option Est)) (m : ChargeMessage) → is_handshake m ≡ true → feeds (Stopping a e) m ≡ false
 unfolding is_handshake feeds
 deaf_stopping a e Cim h = refl
 deaf_stopping a e (Cvm b) h = refl

@@ -2,6 +2,10 @@
 -- of the paper's rules that holds says, from every state, and a refused one changes nothing. So which ticks end a
 -- session, and which end a charge. Assumes nothing.
 use Prim.Native.Nat.{ℕ}
+use Rattle.std.specs.declared.ops.ControlFlow.{ControlFlow}
+use Rattle.session_states.specs.declared.phases.Cause.{Cause}
+use Rattle.session_states.specs.declared.phases.Phase.{Phase}
+use Rattle.std.specs.declared.ops.ControlFlow.TheVariants.{Continue, Break}
 use mathlib.Core.Path.{◌≡◌, refl, sym, ap, ◌∙◌}
 use mathlib.Core.Bool.{Bool, true, false, not, cond, ◌&&◌, false≢true}
 use mathlib.Core.List.{List}
@@ -12,8 +16,6 @@ use Rattle.cells.specs.declared.Cells.{Cells}
 use Rattle.cells.specs.Summaries.{cells_of}
 use Rattle.session_states.specs.declared.states.State.{State}
 use Rattle.session_states.specs.declared.states.State.TheVariants.{Idle, Offered, Unverified, Parameters, Ready, Charging, Stopping, Error}
-use Rattle.session_states.specs.declared.phases.PhaseAfter.{PhaseAfter}
-use Rattle.session_states.specs.declared.phases.PhaseAfter.TheVariants as phase
 use Rattle.session_states.specs.Phases.{phase_after}
 use Rattle.session_by_tick.specs.Turns.{cell_full, turn_of}
 use Rattle.session.specs.declared.Session.{Session}
@@ -41,10 +43,10 @@ charging_open (Stopping k e) h = refl
 charging_open Error h = refl
 
 module _ (x : Settings) (r : Readings) (c : Cells) where
-  charges_on : (t : PhaseAfter) (to : State) → ChargesAs x r c t to → is_charging to ≡ true
+  charges_on : (t : (ControlFlow Cause Phase)) (to : State) → ChargesAs x r c t to → is_charging to ≡ true
   unfolding ChargesAs is_charging
-  charges_on (phase.On p) to e = ap is_charging e
-  charges_on (phase.Stop cause) to e = absurd e
+  charges_on (Continue p) to e = ap is_charging e
+  charges_on (Break cause) to e = absurd e
 
   on_open : (from to : State) → is_idle from ≡ false → GoesOnAs x r c from to → is_idle to ≡ false
   unfolding GoesOnAs is_idle

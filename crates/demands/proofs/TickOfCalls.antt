@@ -2,6 +2,9 @@
 -- rules lead to, with the phase one tick older as the paper counts, since a phase that goes on is below its limit.
 -- Assumes nothing.
 use Prim.Native.Nat.{ℕ, ◌+◌, ◌<◌}
+use Rattle.std.specs.declared.ops.ControlFlow.{ControlFlow}
+use Rattle.session_states.specs.declared.phases.Cause.{Cause}
+use Rattle.std.specs.declared.ops.ControlFlow.TheVariants.{Continue, Break}
 use native.Mathlib.Omega.{arith}
 use mathlib.Core.Path.{◌≡◌, refl, sym, ap, subst, ◌∙◌}
 use mathlib.Core.Bool.{Bool, true, false, cond}
@@ -15,8 +18,6 @@ use Rattle.cells.specs.declared.Cells.{Cells}
 use Rattle.cells.specs.Summaries.{cells_of}
 use Rattle.session_states.specs.declared.phases.Phase.{Phase}
 use Rattle.session_states.specs.declared.phases.Phase.TheVariants.{Drive, Rest, Hold}
-use Rattle.session_states.specs.declared.phases.PhaseAfter.{PhaseAfter}
-use Rattle.session_states.specs.declared.phases.PhaseAfter.TheVariants as phase
 use Rattle.session_states.specs.Limits.{drive_limit, rest_limit, hold_limit, most_drives}
 use Rattle.session_states.specs.Phases.{too_small, drive_rules, hold_rules, after_rest, phase_after}
 use Rattle.session_states.specs.declared.states.State.{State}
@@ -36,23 +37,23 @@ use Rattle.demands.proofs.Stops as stops
 use Rattle.demands.proofs.OfCalls.{accepted_as, session_use}
 
 -- ---- a phase that goes on is below its limit, so one tick older it is its own fold
-unfoldable Young : PhaseAfter → Type 0
-Young (phase.On p) = fold_phase (older p) ≡ older p
-Young (phase.Stop cause) = Unit {0}
+unfoldable Young : ControlFlow Cause Phase → Type 0
+Young (Continue p) = fold_phase (older p) ≡ older p
+Young (Break cause) = Unit {0}
 
-if_young : (b : Bool) (x y : PhaseAfter) → (b ≡ true → Young x) → (b ≡ false → Young y) → Young (cond b x y)
+if_young : (b : Bool) (x y : (ControlFlow Cause Phase)) → (b ≡ true → Young x) → (b ≡ false → Young y) → Young (cond b x y)
 if_young true x y h k = h refl
 if_young false x y h k = k refl
 
-drive_on : (request : TenthAmps) (cycle time : ℕ) → time < drive_limit → Young (phase.On (Drive request cycle time))
+drive_on : (request : TenthAmps) (cycle time : ℕ) → time < drive_limit → Young (Continue (Drive request cycle time))
 unfolding Young fold_phase older
 drive_on request cycle time h = ap (Drive request cycle) (fold_up_to drive_limit (time + 1) (omega arith))
 
-rest_on : (request : TenthAmps) (cycle time : ℕ) → time < rest_limit → Young (phase.On (Rest request cycle time))
+rest_on : (request : TenthAmps) (cycle time : ℕ) → time < rest_limit → Young (Continue (Rest request cycle time))
 unfolding Young fold_phase older
 rest_on request cycle time h = ap (Rest request cycle) (fold_up_to rest_limit (time + 1) (omega arith))
 
-hold_on : (time : ℕ) → time < hold_limit → Young (phase.On (Hold time))
+hold_on : (time : ℕ) → time < hold_limit → Young (Continue (Hold time))
 unfolding Young fold_phase older
 hold_on time h = ap Hold (fold_up_to hold_limit (time + 1) (omega arith))
 
@@ -79,10 +80,10 @@ phase_young (Hold time) full = hold_young time full
 
 -- ---- so where a tick leads, its fold leads
 module _ (x : Settings) (r : Readings) (k : Cells) where
-  charges_fold : (q : PhaseAfter) → Young q → (to : State) → ChargesAs x r k q to → ChargesAs x r k q (fold_state to)
+  charges_fold : (q : (ControlFlow Cause Phase)) → Young q → (to : State) → ChargesAs x r k q to → ChargesAs x r k q (fold_state to)
   unfolding ChargesAs Young fold_state
-  charges_fold (phase.On p) h to e = ap fold_state e ∙ ap Charging h
-  charges_fold (phase.Stop cause) h to e = e
+  charges_fold (Continue p) h to e = ap fold_state e ∙ ap Charging h
+  charges_fold (Break cause) h to e = e
 
   goes_fold : (from to : State) → GoesOnAs x r k from to → GoesOnAs x r k from (fold_state to)
   unfolding GoesOnAs fold_state

@@ -2,6 +2,8 @@
 -- rules that holds (01, "Session by tick"). For `what_a_tick_does`, `what_a_refused_tick_does` and
 -- `what_a_tick_does_in_idle`, and for `which_tick_ends_a_session` and `which_tick_ends_a_charge`.
 use Rattle.std.specs.Prelude.{ℕ, ◌≡◌, Bool, true, false, cond, ◌&&◌, ◌||◌, leb}
+use Rattle.std.specs.declared.ops.ControlFlow.{ControlFlow}
+use Rattle.std.specs.declared.ops.ControlFlow.TheVariants.{Continue, Break}
 use Rattle.units.specs.Units.{halved_amps}
 use Rattle.settings.specs.declared.Settings.{Settings}
 use Rattle.readings.specs.declared.Readings.{Readings}
@@ -11,8 +13,6 @@ use Rattle.session_states.specs.declared.phases.Phase.{Phase}
 use Rattle.session_states.specs.declared.phases.Phase.TheVariants.{Drive, Rest, Hold}
 use Rattle.session_states.specs.declared.phases.Cause.{Cause}
 use Rattle.session_states.specs.declared.phases.Cause.TheVariants.{PackVoltage, HoldCell, Other}
-use Rattle.session_states.specs.declared.phases.PhaseAfter.{PhaseAfter}
-use Rattle.session_states.specs.declared.phases.PhaseAfter.TheVariants as phase
 use Rattle.session_states.specs.Phases.{too_small, phase_after}
 use Rattle.session_states.specs.declared.states.State.{State}
 use Rattle.session_states.specs.declared.states.State.TheVariants.{Idle, Offered, Unverified, Parameters, Ready, Charging, Stopping, Error}
@@ -80,9 +80,9 @@ module _ (x : Settings) (r : Readings) (c : Cells) where
   why_of s = why_in s.count s.silence s.state
 
   -- Charging goes on in the phase that the phase's own rules lead to, one tick older
-  unfoldable pub ChargesAs : PhaseAfter → State → Type 0
-  ChargesAs (phase.On p) to = to ≡ Charging (older p)
-  ChargesAs (phase.Stop cause) to = ⊥
+  unfoldable pub ChargesAs : ControlFlow Cause Phase → State → Type 0
+  ChargesAs (Continue p) to = to ≡ Charging (older p)
+  ChargesAs (Break cause) to = ⊥
 
   -- where no rule holds the state is as it was, but that Charging goes on by its phase, and Stopping has its EST bytes
   -- fixed by now

@@ -2,6 +2,9 @@
 -- rely on"; "Worked rows"). In the paper's order, with the row of 02, request 1, beside the one that it changes. For
 -- `worked_rows`.
 use Rattle.std.specs.Prelude.{ℕ, suc, ◌<◌, ◌≤◌, ◌≡◌, Bool, true, false, List, [], ◌∷◌, ◌++◌, ℤ, pos, negsuc, length, replicate}
+use Rattle.std.specs.declared.ops.ControlFlow.{ControlFlow}
+use Rattle.session_states.specs.declared.phases.Cause.{Cause}
+use Rattle.std.specs.declared.ops.ControlFlow.TheVariants.{Continue, Break}
 use Rattle.units.specs.declared.TenthAmps.{TenthAmps}
 use Rattle.units.specs.declared.RawAmps.{RawAmps}
 use Rattle.units.specs.Units.{raw_amps}
@@ -17,8 +20,6 @@ use Rattle.cells.specs.Figures.{cell_count}
 use Rattle.cells.specs.Summaries.{summary_of, average_of}
 use Rattle.session_states.specs.declared.phases.Phase.{Phase}
 use Rattle.session_states.specs.declared.phases.Phase.TheVariants.{Drive, Rest, Hold}
-use Rattle.session_states.specs.declared.phases.PhaseAfter.{PhaseAfter}
-use Rattle.session_states.specs.declared.phases.PhaseAfter.TheVariants.{On, Stop}
 use Rattle.session_states.specs.Phases.{start_phase, phase_after}
 use Rattle.charge_messages.specs.declared.Offer.{Offer}
 use Rattle.session_by_message.specs.Offer.{offered_tenths, accepted_of, station_maximum}
@@ -56,9 +57,9 @@ asked_in (Rest request cycle time) = NoCurrent
 asked_in (Hold time) = Voltage
 
 -- a phase that goes on, and one that stops the charge
-unfoldable pub onward : PhaseAfter → (Phase → List Asked) → List Asked
-onward (On p) then = then p
-onward (Stop cause) then = []
+unfoldable pub onward : ControlFlow Cause Phase → (Phase → List Asked) → List Asked
+onward (Continue p) then = then p
+onward (Break cause) then = []
 
 -- a charge's phase over ticks, each of which says whether a cell is at or above maximum: the phase after its rules is
 -- asked of the station, and is one tick older then
@@ -141,8 +142,8 @@ pub record WorkedRows : Type 0 where
   -- R 60 drives, 59 holds: at the start and after a Rest
   pub drives_60 : start_phase (tenths 400) (tenths 60) ≡ Drive (tenths 60) 1 0
   pub holds_59 : start_phase (tenths 400) (tenths 59) ≡ Hold 0
-  pub drives_60_again : phase_after (Rest (tenths 120) 1 rest_limit) false ≡ On (Drive (tenths 60) 2 0)
-  pub holds_59_then : phase_after (Rest (tenths 119) 1 rest_limit) false ≡ On (Hold 0)
+  pub drives_60_again : phase_after (Rest (tenths 120) 1 rest_limit) false ≡ Continue (Drive (tenths 60) 2 0)
+  pub holds_59_then : phase_after (Rest (tenths 119) 1 rest_limit) false ≡ Continue (Hold 0)
   -- voltages 330, 331 average 330
   pub average : average_of (summary_of (330 ∷ 331 ∷ [])) ≡ 330
   -- equal cells give index 1, however many they are

@@ -1,12 +1,12 @@
 -- The frames of a tick (01, "Session by tick", "Frames"). "Each 5" starts at 0.
 use Rattle.std.specs.Prelude.{ℕ, ◌%◌, Bool, true, false, cond, List, [], ◌∷◌, eqb}
+use Rattle.std.specs.Prelude.{Option, Some, None}
 use Rattle.frames.specs.declared.Frame.{Frame}
 use Rattle.settings.specs.declared.Settings.{Settings}
 use Rattle.readings.specs.declared.Readings.{Readings}
 use Rattle.cells.specs.declared.Cells.{Cells}
 use Rattle.session_states.specs.declared.phases.Phase.{Phase}
 use Rattle.session_states.specs.declared.states.Est.{Est}
-use Rattle.session_states.specs.declared.states.Est.TheVariants.{Awaited, Fixed}
 use Rattle.session_states.specs.declared.states.State.{State}
 use Rattle.session_states.specs.declared.states.State.TheVariants.{Idle, Offered, Unverified, Parameters, Ready, Charging, Stopping, Error}
 use Rattle.session_states.specs.Limits.{first_ecp}
@@ -31,12 +31,12 @@ unfoldable pub charging_frames : Settings → Readings → Cells → ℕ → ℕ
 charging_frames x r c station count p = ecr_of x station c p ∷ each5 count (ecs_of x station r c ∷ esm_of x station c ∷ [])
 
 -- EST with its two fixed bytes: a tick's turn has fixed them before any frame (`turn_fixes_est`, session_by_tick)
-unfoldable pub est_bytes : Settings → ℕ → Bool → Est → Frame
-est_bytes x station acknowledged Awaited = est_frame x station 0 0 acknowledged
-est_bytes x station acknowledged (Fixed first second) = est_frame x station first second acknowledged
+unfoldable pub est_bytes : Settings → ℕ → Bool → Option Est → Frame
+est_bytes x station acknowledged None = est_frame x station 0 0 acknowledged
+est_bytes x station acknowledged (Some bytes) = est_frame x station bytes.first bytes.second acknowledged
 
 -- Stopping EST each tick, EDM each 5
-unfoldable pub stopping_frames : Settings → Readings → Cells → ℕ → ℕ → Bool → Est → List Frame
+unfoldable pub stopping_frames : Settings → Readings → Cells → ℕ → ℕ → Bool → Option Est → List Frame
 stopping_frames x r c station count acknowledged est =
     est_bytes x station acknowledged est ∷ each5 count (edm_of x station r c ∷ [])
 

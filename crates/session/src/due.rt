@@ -66,12 +66,12 @@ fn charging(x: Settings, r: Readings, c: Cells, station: u8, count: u16, p: Phas
 }
 
 #[tactic(auto, unfolding(crate::specs::Frames::est_bytes))]
-fn est_frame(x: Settings, station: u8, acknowledged: bool, est: Est) -> Frame
+fn est_frame(x: Settings, station: u8, acknowledged: bool, est: Option<Est>) -> Frame
     ensures { result ≡ est_bytes x station acknowledged est }
 {
     match est {
-        Est::Awaited => session_frames::est(x, station, 0, 0, acknowledged),
-        Est::Fixed(first, second) => session_frames::est(x, station, first, second, acknowledged),
+        None => session_frames::est(x, station, 0, 0, acknowledged),
+        Some(bytes) => session_frames::est(x, station, bytes.first, bytes.second, acknowledged),
     }
 }
 
@@ -83,7 +83,7 @@ fn stopping(
     station: u8,
     count: u16,
     acknowledged: bool,
-    est: Est,
+    est: Option<Est>,
 ) -> ChargeFrames
     ensures { result.items ≡ stopping_frames x r c station count acknowledged est }
 {
@@ -112,10 +112,9 @@ fn in_state(
         State::Offered => one_each_5(count, session_frames::eim(x, station, true)),
         State::Unverified => one_each_5(count, session_frames::evm(x, station, r, false)),
         State::Parameters => parameters(x, r, station, count),
-        State::Ready {
-            accepted,
-            maximum: _,
-        } => { one_each_5(count, session_frames::erm(x, station, accepted)) }
+        State::Ready { accepted, .. } => {
+            one_each_5(count, session_frames::erm(x, station, accepted))
+        }
         State::Charging(p) => charging(x, r, c, station, count, p),
         State::Stopping { acknowledged, est } => {
             stopping(x, r, c, station, count, acknowledged, est)

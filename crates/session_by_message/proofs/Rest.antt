@@ -1,6 +1,7 @@
 -- The arm `_` of each state's match: every message that falls to it comes to the arm's outcome. Each law is handed what the arm is told,
 -- that the message's tag is one of the arm's keys. Assumes nothing.
 use Prim.Native.Nat.{ℕ}
+use Rattle.std.proofs.Common.{Option}
 use mathlib.Core.Path.{◌≡◌, refl}
 use mathlib.Core.Bool.{Bool}
 use mathlib.Core.List.{[], ◌∷◌}
@@ -82,7 +83,7 @@ rest_charging (Cst b) h = absurd (miss (0 ∷ 1 ∷ 2 ∷ 3 ∷ []) 5 tt h)
 rest_charging Cem h = absurd (miss (0 ∷ 1 ∷ 2 ∷ 3 ∷ []) 6 tt h)
 
 pub rest_stopping :
-    (est : Est) (count : ℕ) (m : ChargeMessage) →
+    (est : (Option Est)) (count : ℕ) (m : ChargeMessage) →
     OneOf (0 ∷ 1 ∷ 2 ∷ 3 ∷ 4 ∷ []) (tag_of the_type m) → Refuse ≡ in_stopping est count m
 unfolding in_stopping
 rest_stopping est count Cim h = refl

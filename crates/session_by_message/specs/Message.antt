@@ -2,6 +2,7 @@
 -- 0 at its first tick and is moved on after that tick's frames, so a frame that goes out at count k has gone out once
 -- the count has passed k.
 use Rattle.std.specs.Prelude.{ℕ, Bool, true, false, cond, ◌&&◌, ltb}
+use Rattle.std.specs.Prelude.{Option, None}
 use Rattle.settings.specs.declared.Settings.{Settings}
 use Rattle.charge_messages.specs.declared.Offer.{Offer}
 use Rattle.charge_messages.specs.declared.ChargeMessage.{ChargeMessage}
@@ -10,7 +11,6 @@ use Rattle.units.specs.declared.TenthAmps.{TenthAmps}
 use Rattle.session_states.specs.Limits.{first_ecp}
 use Rattle.session_states.specs.Phases.{start_phase}
 use Rattle.session_states.specs.declared.states.Est.{Est}
-use Rattle.session_states.specs.declared.states.Est.TheVariants.{Awaited}
 use Rattle.session_states.specs.declared.states.State.{State}
 use Rattle.session_states.specs.declared.states.State.TheVariants.{Idle, Offered, Unverified, Parameters, Ready, Charging, Stopping, Error}
 use Rattle.session_by_message.specs.declared.Outcome.{Outcome}
@@ -33,7 +33,7 @@ gone_out k count = ltb k count
 
 -- CST, either value, from Offered to Charging enters Stopping marked acknowledged
 abbrev pub stop_by_cst : Outcome
-stop_by_cst = Enter (Stopping true Awaited)
+stop_by_cst = Enter (Stopping true None)
 
 -- CEM in any session ends it to Idle
 abbrev pub end_by_cem : Outcome
@@ -106,12 +106,12 @@ in_charging Cim = Refuse
 in_charging (Cvm b) = Refuse
 in_charging (Cmp o) = Refuse
 in_charging (Crm b) = Refuse
-in_charging (Ccs b) = cond b Heard (Enter (Stopping false Awaited))
+in_charging (Ccs b) = cond b Heard (Enter (Stopping false None))
 in_charging (Cst b) = stop_by_cst
 in_charging Cem = end_by_cem
 
 -- Stopping: CST 00 marks acknowledged. CST AA ends to Idle if an EST has gone out since entry, else 11
-unfoldable pub in_stopping : Est → ℕ → ChargeMessage → Outcome
+unfoldable pub in_stopping : Option Est → ℕ → ChargeMessage → Outcome
 in_stopping est count Cim = Refuse
 in_stopping est count (Cvm b) = Refuse
 in_stopping est count (Cmp o) = Refuse

@@ -16,10 +16,7 @@ fn ready(x: Settings, o: Offer) -> Outcome
 {
     let accepted = offer::accepted(x, o);
     let maximum = offer::station_maximum(o);
-    Outcome::Enter(State::Ready {
-        accepted: accepted,
-        maximum: maximum,
-    })
+    Outcome::Enter(State::Ready { accepted, maximum })
 }
 
 // CST, either value, from Offered to Charging enters Stopping marked acknowledged.
@@ -28,7 +25,7 @@ fn stop_by_cst() -> Outcome
 {
     Outcome::Enter(State::Stopping {
         acknowledged: true,
-        est: Est::Awaited,
+        est: None,
     })
 }
 
@@ -163,7 +160,7 @@ fn in_charging(m: ChargeMessage) -> Outcome
             } else {
                 Outcome::Enter(State::Stopping {
                     acknowledged: false,
-                    est: Est::Awaited,
+                    est: None,
                 })
             }
         }
@@ -174,7 +171,7 @@ fn in_charging(m: ChargeMessage) -> Outcome
 }
 
 #[tactic(auto, unfolding(crate::specs::Message::in_stopping))]
-fn in_stopping(est: Est, count: u16, m: ChargeMessage) -> Outcome
+fn in_stopping(est: Option<Est>, count: u16, m: ChargeMessage) -> Outcome
     ensures { result ≡ in_stopping est count m }
 {
     match m {
@@ -188,7 +185,7 @@ fn in_stopping(est: Est, count: u16, m: ChargeMessage) -> Outcome
             } else {
                 Outcome::Keep(State::Stopping {
                     acknowledged: true,
-                    est: est,
+                    est,
                 })
             }
         }
@@ -219,10 +216,7 @@ pub fn outcome(x: Settings, state: State, count: u16, m: ChargeMessage) -> Outco
         State::Parameters => in_parameters(x, count, m),
         State::Ready { accepted, maximum } => in_ready(x, accepted, maximum, count, m),
         State::Charging(_) => in_charging(m),
-        State::Stopping {
-            acknowledged: _,
-            est,
-        } => in_stopping(est, count, m),
+        State::Stopping { est, .. } => in_stopping(est, count, m),
         State::Error => in_error(m),
     }
 }

@@ -1,6 +1,9 @@
 -- What a tick makes of a state: 01, "Session by tick". State changes come first, then the frames of the resulting
 -- state.
 use Rattle.std.specs.Prelude.{ℕ, ◌+◌, Bool, true, false, cond, eqb, leb}
+use Rattle.std.specs.Prelude.{Option, Some, None}
+use Rattle.std.specs.declared.ops.ControlFlow.{ControlFlow}
+use Rattle.std.specs.declared.ops.ControlFlow.TheVariants.{Continue, Break}
 use Rattle.settings.specs.declared.Settings.{Settings}
 use Rattle.readings.specs.declared.Readings.{Readings}
 use Rattle.readings.specs.Readings.{wanted_of, above_of}
@@ -9,12 +12,9 @@ use Rattle.cells.specs.Figures.{highest_voltage}
 use Rattle.session_states.specs.declared.phases.Phase.{Phase}
 use Rattle.session_states.specs.declared.phases.Cause.{Cause}
 use Rattle.session_states.specs.declared.phases.Cause.TheVariants.{PackVoltage, HoldCell, Other}
-use Rattle.session_states.specs.declared.phases.PhaseAfter.{PhaseAfter}
-use Rattle.session_states.specs.declared.phases.PhaseAfter.TheVariants as phase
 use Rattle.session_states.specs.Limits.{silence_limit, closing_limit}
 use Rattle.session_states.specs.Phases.{phase_after}
 use Rattle.session_states.specs.declared.states.Est.{Est}
-use Rattle.session_states.specs.declared.states.Est.TheVariants.{Awaited, Fixed}
 use Rattle.session_states.specs.declared.states.State.{State}
 use Rattle.session_states.specs.declared.states.State.TheVariants.{Idle, Offered, Unverified, Parameters, Ready, Charging, Stopping, Error}
 use Rattle.session_by_tick.specs.declared.Turn.{Turn}
@@ -52,8 +52,8 @@ unfoldable pub est_second : Settings → Readings → ℕ
 est_second x r = cond (current_above x r) 0x01 0
 
 -- bytes 1 and 2, fixed by this tick's readings and the cause
-unfoldable pub est_of : Settings → Readings → Cells → Cause → Est
-est_of x r c cause = Fixed (est_first x r c cause) (est_second x r)
+unfoldable pub est_of : Settings → Readings → Cells → Cause → Option Est
+est_of x r c cause = Some (record { first = est_first x r c cause; second = est_second x r })
 
 -- Stopping begins: this is its first tick, and it is not acknowledged
 unfoldable pub stop_of : Settings → Readings → Cells → Cause → Turn
@@ -64,9 +64,9 @@ unfoldable pub waiting_of : Readings → ℕ → State → Turn
 waiting_of r silence st = cond (leb silence_limit silence) (Enter Error) (cond (wanted_of r) (On st) Farewell)
 
 -- by phase
-unfoldable pub phase_on : Settings → Readings → Cells → PhaseAfter → Turn
-phase_on x r c (phase.On p) = On (Charging p)
-phase_on x r c (phase.Stop cause) = stop_of x r c cause
+unfoldable pub phase_on : Settings → Readings → Cells → ControlFlow Cause Phase → Turn
+phase_on x r c (Continue p) = On (Charging p)
+phase_on x r c (Break cause) = stop_of x r c cause
 
 unfoldable pub phase_turn : Settings → Readings → Cells → Phase → Turn
 phase_turn x r c p = phase_on x r c (phase_after p (cell_full x c))
@@ -84,12 +84,12 @@ charging_of x r c silence p =
 
 -- EST bytes 1 and 2 are fixed at Stopping's first tick: where a message entered it, the cause is neither pack voltage
 -- nor a cell
-unfoldable pub est_then : Settings → Readings → Cells → Est → Est
-est_then x r c Awaited = est_of x r c Other
-est_then x r c (Fixed first second) = Fixed first second
+unfoldable pub est_then : Settings → Readings → Cells → Option Est → Option Est
+est_then x r c None = est_of x r c Other
+est_then x r c (Some bytes) = Some bytes
 
 -- Stopping and Error end to Idle at count 600
-unfoldable pub stopping_of : Settings → Readings → Cells → ℕ → Bool → Est → Turn
+unfoldable pub stopping_of : Settings → Readings → Cells → ℕ → Bool → Option Est → Turn
 stopping_of x r c count acknowledged est =
     cond (leb closing_limit count) End (On (Stopping acknowledged (est_then x r c est)))
 

@@ -4,14 +4,15 @@
 #![tactic(auto)]
 
 ghost use Rattle.std.specs.Prelude.{◌≡◌, cond, ◌≤◌};
-ghost use Rattle.session_by_tick.specs.Turns.{cell_full, pack_full, current_above, is_other, est_first, est_second, stop_of, est_of, waiting_of, phase_turn, stops_of, charging_of, stopping_of, error_of, turn_of};
+ghost use Rattle.session_by_tick.specs.Turns.{cell_full, pack_full, current_above, est_first, est_second, stop_of, est_of, waiting_of, phase_turn, stops_of, charging_of, stopping_of, error_of, turn_of};
 
 use cells::Cells;
 use readings::Readings;
 use session_states::limits;
-use session_states::phases::{Cause, Phase, PhaseAfter};
+use session_states::phases::{Cause, Phase};
 use session_states::states::{Est, State};
 use settings::Settings;
+use std::ops::ControlFlow;
 
 #[derive(Clone, Copy)]
 pub enum Turn {
@@ -49,17 +50,6 @@ fn current_above(x: Settings, r: Readings) -> bool
     r.current_above(x.limits.current)
 }
 
-#[tactic(auto, unfolding(crate::specs::Turns::is_other))]
-fn is_other(cause: Cause) -> bool
-    ensures { result ≡ is_other cause }
-{
-    match cause {
-        Cause::PackVoltage => false,
-        Cause::HoldCell => false,
-        Cause::Other => true,
-    }
-}
-
 // A bit of a byte, where it is to be set.
 fn bit(on: bool, place: u8) -> u8
     ensures is { result ≡ cond on place 0 }
@@ -68,14 +58,14 @@ fn bit(on: bool, place: u8) -> u8
     if on { place } else { 0 }
 }
 
-#[tactic(auto, unfolding(crate::specs::Turns::est_first))]
+#[tactic(auto, unfolding(crate::specs::Turns::est_first, crate::specs::Turns::is_other))]
 fn est_first(x: Settings, r: Readings, c: Cells, cause: Cause) -> u8
     ensures { result ≡ est_first x r c cause }
 {
     let soc = bit(r.soc == 100, 0x01);
     let pack = bit(pack_full(x, r), 0x04);
     let cell = bit(cell_full(x, c), 0x10);
-    let other = bit(is_other(cause), 0x40);
+    let other = bit(cause == Cause::Other, 0x40);
     soc + pack + cell + other
 }
 
@@ -87,12 +77,13 @@ fn est_second(x: Settings, r: Readings) -> u8
 }
 
 #[tactic(auto, unfolding(crate::specs::Turns::est_of))]
-fn fixed(x: Settings, r: Readings, c: Cells, cause: Cause) -> Est
+fn fixed(x: Settings, r: Readings, c: Cells, cause: Cause) -> Option<Est>
     ensures { result ≡ est_of x r c cause }
 {
-    let first = est_first(x, r, c, cause);
-    let second = est_second(x, r);
-    Est::Fixed(first, second)
+    Some(Est {
+        first: est_first(x, r, c, cause),
+        second: est_second(x, r),
+    })
 }
 
 // Stopping begins on this tick, which is its first.
@@ -103,7 +94,7 @@ fn stop(x: Settings, r: Readings, c: Cells, cause: Cause) -> Turn
     let est = fixed(x, r, c, cause);
     Turn::Enter(State::Stopping {
         acknowledged: false,
-        est: est,
+        est,
     })
 }
 
@@ -127,8 +118,8 @@ fn phase_turn(x: Settings, r: Readings, c: Cells, p: Phase) -> Turn
 {
     let full = cell_full(x, c);
     match p.after_tick(full) {
-        PhaseAfter::On(q) => Turn::On(State::Charging(q)),
-        PhaseAfter::Stop(cause) => stop(x, r, c, cause),
+        ControlFlow::Continue(q) => Turn::On(State::Charging(q)),
+        ControlFlow::Break(cause) => stop(x, r, c, cause),
     }
 }
 
@@ -160,25 +151,24 @@ fn charging(x: Settings, r: Readings, c: Cells, silence: u8, p: Phase) -> Turn
 }
 
 #[tactic(auto, unfolding(crate::specs::Turns::stopping_of, crate::specs::Turns::est_then))]
-fn stopping(x: Settings, r: Readings, c: Cells, count: u16, acknowledged: bool, est: Est) -> Turn
+fn stopping(
+    x: Settings,
+    r: Readings,
+    c: Cells,
+    count: u16,
+    acknowledged: bool,
+    est: Option<Est>,
+) -> Turn
     ensures { result ≡ stopping_of x r c count acknowledged est }
 {
     if limits::CLOSING <= count {
         Turn::End
     } else {
-        match est {
-            Est::Awaited => {
-                let now = fixed(x, r, c, Cause::Other);
-                Turn::On(State::Stopping {
-                    acknowledged: acknowledged,
-                    est: now,
-                })
-            }
-            Est::Fixed(first, second) => Turn::On(State::Stopping {
-                acknowledged: acknowledged,
-                est: Est::Fixed(first, second),
-            }),
-        }
+        let est = match est {
+            Some(bytes) => Some(bytes),
+            None => fixed(x, r, c, Cause::Other),
+        };
+        Turn::On(State::Stopping { acknowledged, est })
     }
 }
 
@@ -200,17 +190,9 @@ pub fn turn_of(x: Settings, r: Readings, c: Cells, state: State, count: u16, sil
 {
     match state {
         State::Idle => Turn::On(State::Idle),
-        State::Offered => waiting(r, silence, State::Offered),
-        State::Unverified => waiting(r, silence, State::Unverified),
-        State::Parameters => waiting(r, silence, State::Parameters),
-        State::Ready { accepted, maximum } => waiting(
-            r,
-            silence,
-            State::Ready {
-                accepted: accepted,
-                maximum: maximum,
-            },
-        ),
+        State::Offered | State::Unverified | State::Parameters | State::Ready { .. } => {
+            waiting(r, silence, state)
+        }
         State::Charging(p) => charging(x, r, c, silence, p),
         State::Stopping { acknowledged, est } => stopping(x, r, c, count, acknowledged, est),
         State::Error => error(count),

@@ -145,20 +145,12 @@ pub fn ecr(x: Settings, station: u8, c: Cells, p: Phase) -> Frame
     ensures { result ≡ ecr_of x station c p }
 {
     match p {
-        Phase::Drive {
-            request,
-            cycle: _,
-            time: _,
-        } => {
+        Phase::Drive { request, .. } => {
             let raw = request.raw();
             ecr_frame(x, station, TenthVolts(0), raw, 0x02)
         }
-        Phase::Rest {
-            request: _,
-            cycle: _,
-            time: _,
-        } => ecr_frame(x, station, TenthVolts(0), NO_CURRENT, 0x02),
-        Phase::Hold { time: _ } => {
+        Phase::Rest { .. } => ecr_frame(x, station, TenthVolts(0), NO_CURRENT, 0x02),
+        Phase::Hold { .. } => {
             let v = hold_voltage(x, c);
             ecr_frame(x, station, v, NO_CURRENT, 0x01)
         }

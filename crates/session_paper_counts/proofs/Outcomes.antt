@@ -1,5 +1,6 @@
 -- What a charge message comes to, for a session and for its fold. Assumes nothing.
 use mathlib.Core.Path.{◌≡◌, refl, ap}
+use Rattle.std.proofs.Common.{Option, None}
 use mathlib.Core.Bool.{Bool, true, false, cond, ◌&&◌}
 use Prim.Native.Nat.{ℕ}
 use native.Mathlib.Omega.{arith}
@@ -14,7 +15,6 @@ use Rattle.session_states.specs.Limits.{closing_limit, first_ecp}
 use Rattle.session_states.specs.Counts.{next_each_five, next_ecp, next_up_to}
 use Rattle.session_states.specs.Phases.{too_small, start_phase}
 use Rattle.session_states.specs.declared.states.Est.{Est}
-use Rattle.session_states.specs.declared.states.Est.TheVariants.{Awaited}
 use Rattle.session_states.specs.declared.states.State.{State}
 use Rattle.session_states.specs.declared.states.State.TheVariants.{Idle, Offered, Unverified, Parameters, Ready, Charging, Stopping, Error}
 use Rattle.session_by_message.specs.declared.Outcome.{Outcome}
@@ -93,7 +93,7 @@ unfolding applied_of session_after folds fold_state fold_count fold
 ends = record { alike = λ source s. refl }
 
 -- Stopping that goes on leaves the count in the same cycle
-keeps : (acknowledged : Bool) (est : Est) → Alike (Stopping acknowledged est) (Keep (Stopping true est)) (Keep (Stopping true est))
+keeps : (acknowledged : Bool) (est : (Option Est)) → Alike (Stopping acknowledged est) (Keep (Stopping true est)) (Keep (Stopping true est))
 unfolding applied_of session_after folds fold_state fold_count fold
 keeps acknowledged est = record { alike = λ source s. refl }
 
@@ -113,9 +113,9 @@ charging : {st : State} (maximum station : TenthAmps) → Alike st (Enter (Charg
 unfolding fold_state
 charging maximum station = enter (Charging (start_phase maximum station)) (Charging (start_phase maximum station)) (ap Charging (start_folds maximum station))
 
-stopping : {st : State} (acknowledged : Bool) → Alike st (Enter (Stopping acknowledged Awaited)) (Enter (Stopping acknowledged Awaited))
+stopping : {st : State} (acknowledged : Bool) → Alike st (Enter (Stopping acknowledged None)) (Enter (Stopping acknowledged None))
 unfolding fold_state
-stopping acknowledged = enter (Stopping acknowledged Awaited) (Stopping acknowledged Awaited) refl
+stopping acknowledged = enter (Stopping acknowledged None) (Stopping acknowledged None) refl
 
 outcome_alike : (x : Settings) (st : State) (n : ℕ) (m : ChargeMessage) → Alike st (outcome_of x st n m) (outcome_of x (fold_state st) (fold_count st n) m)
 unfolding outcome_of in_idle in_offered in_unverified in_parameters in_ready crm_in_ready in_charging in_stopping in_error fold_state fold_count

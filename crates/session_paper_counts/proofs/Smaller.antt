@@ -1,5 +1,8 @@
 -- Each step of the code's session leaves its counts small. Assumes nothing.
 use mathlib.Core.Path.{◌≡◌, refl}
+use Rattle.std.proofs.Common.{Option, None}
+use Rattle.std.specs.declared.ops.ControlFlow.{ControlFlow}
+use Rattle.std.specs.declared.ops.ControlFlow.TheVariants.{Continue, Break}
 use mathlib.Core.Bool.{Bool, true, false, cond, ◌&&◌}
 use Prim.Native.Nat.{ℕ, ◌+◌, ◌≤◌}
 use native.Mathlib.Omega.{arith}
@@ -18,13 +21,10 @@ use Rattle.session_states.specs.declared.phases.Phase.{Phase}
 use Rattle.session_states.specs.declared.phases.Phase.TheVariants.{Drive, Rest, Hold}
 use Rattle.session_states.specs.declared.phases.Cause.{Cause}
 use Rattle.session_states.specs.declared.phases.Cause.TheVariants.{PackVoltage, HoldCell, Other}
-use Rattle.session_states.specs.declared.phases.PhaseAfter.{PhaseAfter}
-use Rattle.session_states.specs.declared.phases.PhaseAfter.TheVariants as after
 use Rattle.session_states.specs.Limits.{silence_limit, closing_limit, first_ecp, drive_limit, rest_limit, hold_limit, most_drives}
 use Rattle.session_states.specs.Counts.{next_count, next_each_five, next_ecp, next_up_to}
 use Rattle.session_states.specs.Phases.{too_small, aged_of, drive_rules, hold_rules, after_rest, phase_after, start_phase}
 use Rattle.session_states.specs.declared.states.Est.{Est}
-use Rattle.session_states.specs.declared.states.Est.TheVariants.{Awaited}
 use Rattle.session_states.specs.declared.states.State.{State}
 use Rattle.session_states.specs.declared.states.State.TheVariants.{Idle, Offered, Unverified, Parameters, Ready, Charging, Stopping, Error}
 use Rattle.session_by_tick.specs.declared.Turn.{Turn}
@@ -135,18 +135,18 @@ module _ (x : Settings) (r : Readings) (c : Cells) where
   unfolding stop_of in_phase
   stop cause = begins (Stopping false (est_of x r c cause)) (omega arith) (omega arith)
 
-  record FinePhase (t : PhaseAfter) : Type 0 where
+  record FinePhase (t : (ControlFlow Cause Phase)) : Type 0 where
     fine_phase : Fine (phase_on x r c t)
 
-  phase_either : (t : Bool) {u v : PhaseAfter} → (t ≡ true → FinePhase u) → (t ≡ false → FinePhase v) → FinePhase (cond t u v)
+  phase_either : (t : Bool) {u v : (ControlFlow Cause Phase)} → (t ≡ true → FinePhase u) → (t ≡ false → FinePhase v) → FinePhase (cond t u v)
   phase_either true h k = h refl
   phase_either false h k = k refl
 
-  goes_on_lem : (p : Phase) → phase_time p ≤ drive_limit → phase_cycle p ≤ most_drives → FinePhase (after.On p)
+  goes_on_lem : (p : Phase) → phase_time p ≤ drive_limit → phase_cycle p ≤ most_drives → FinePhase (Continue p)
   unfolding phase_on in_phase
   goes_on_lem p time cycle = record { fine_phase = on (Charging p) time cycle }
 
-  stops : (cause : Cause) → FinePhase (after.Stop cause)
+  stops : (cause : Cause) → FinePhase (Break cause)
   unfolding phase_on
   stops cause = record { fine_phase = stop cause }
 
@@ -245,7 +245,7 @@ unfolding applied_of session_after
 enter st time cycle =
     record { good = λ source s h. record { count_small = omega arith; silence_small = omega arith; time_small = time; cycle_small = cycle } }
 
-keep : (est : Est) → Good (Keep (Stopping true est))
+keep : (est : (Option Est)) → Good (Keep (Stopping true est))
 unfolding applied_of session_after in_phase
 keep est =
     record { good = λ source s h. record { count_small = h.count_small; silence_small = omega arith; time_small = omega arith; cycle_small = omega arith } }
@@ -262,9 +262,9 @@ ready : (x : Settings) (o : Offer) → Good (ready_of x o)
 unfolding ready_of in_phase
 ready x o = enter (Ready (accepted_of x o) (station_maximum o)) (omega arith) (omega arith)
 
-stopping : (acknowledged : Bool) → Good (Enter (Stopping acknowledged Awaited))
+stopping : (acknowledged : Bool) → Good (Enter (Stopping acknowledged None))
 unfolding in_phase
-stopping acknowledged = enter (Stopping acknowledged Awaited) (omega arith) (omega arith)
+stopping acknowledged = enter (Stopping acknowledged None) (omega arith) (omega arith)
 
 starts_any : (t : Bool) (request : TenthAmps) → Good (Enter (Charging (cond t (Hold 0) (Drive request 1 0))))
 unfolding in_phase phase_time phase_cycle

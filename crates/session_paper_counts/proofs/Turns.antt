@@ -1,5 +1,8 @@
 -- The state change of a tick, its frames and the counts after it, for a session and for its fold. Assumes nothing.
 use mathlib.Core.Path.{◌≡◌, refl, ap, ◌∙◌}
+use Rattle.std.proofs.Common.{Option}
+use Rattle.std.specs.declared.ops.ControlFlow.{ControlFlow}
+use Rattle.std.specs.declared.ops.ControlFlow.TheVariants.{Continue, Break}
 use mathlib.Core.Bool.{Bool, true, false, cond}
 use mathlib.Core.List.{List, [], ◌∷◌}
 use Prim.Native.Nat.{ℕ, ◌+◌}
@@ -17,8 +20,6 @@ use Rattle.session_states.specs.declared.phases.Phase.{Phase}
 use Rattle.session_states.specs.declared.phases.Phase.TheVariants.{Drive, Rest, Hold}
 use Rattle.session_states.specs.declared.phases.Cause.{Cause}
 use Rattle.session_states.specs.declared.phases.Cause.TheVariants.{PackVoltage, Other}
-use Rattle.session_states.specs.declared.phases.PhaseAfter.{PhaseAfter}
-use Rattle.session_states.specs.declared.phases.PhaseAfter.TheVariants as phase
 use Rattle.session_states.specs.Limits.{silence_limit, closing_limit, drive_limit, rest_limit, hold_limit, most_drives}
 use Rattle.session_states.specs.Counts.{next_each_five, next_ecp, next_up_to}
 use Rattle.session_states.specs.Phases.{too_small, aged_of, drive_rules, hold_rules, after_rest, phase_after}
@@ -134,9 +135,9 @@ fold_turn (Enter st) = Enter (fold_state st)
 fold_turn Farewell = Farewell
 fold_turn End = End
 
-abbrev fold_after : PhaseAfter → PhaseAfter
-fold_after (phase.On p) = phase.On (fold_phase p)
-fold_after (phase.Stop cause) = phase.Stop cause
+abbrev fold_after : ControlFlow Cause Phase → ControlFlow Cause Phase
+fold_after (Continue p) = Continue (fold_phase p)
+fold_after (Break cause) = Break cause
 
 pub both : {A B : Type 0} (f : A → B) (t : Bool) {x y : A} {x' y' : B} → f x ≡ x' → f y ≡ y' → f (cond t x y) ≡ cond t x' y'
 both f true h k = h
@@ -171,10 +172,10 @@ phase_folds (Rest request cycle time) cell =
 phase_folds (Hold time) cell = hold_folds time cell
 
 module _ (x : Settings) (r : Readings) (c : Cells) where
-  phase_on_lem : (t : PhaseAfter) → fold_turn (phase_on x r c t) ≡ phase_on x r c (fold_after t)
+  phase_on_lem : (t : (ControlFlow Cause Phase)) → fold_turn (phase_on x r c t) ≡ phase_on x r c (fold_after t)
   unfolding phase_on stop_of fold_state
-  phase_on_lem (phase.On p) = refl
-  phase_on_lem (phase.Stop cause) = refl
+  phase_on_lem (Continue p) = refl
+  phase_on_lem (Break cause) = refl
 
   stops_folds : (p : Phase) → fold_turn (stops_of x r c p) ≡ stops_of x r c (fold_phase p)
   unfolding stops_of phase_turn stop_of fold_state
@@ -230,7 +231,7 @@ on : (st : State) → Steps st (On st)
 unfolding folds turned_by
 on st = record { steps = λ s. refl }
 
-stays : (k : Bool) (est later : Est) → Steps (Stopping k est) (On (Stopping k later))
+stays : (k : Bool) (est later : (Option Est)) → Steps (Stopping k est) (On (Stopping k later))
 unfolding folds turned_by fold_count fold_state
 stays k est later = record { steps = λ s. refl }
 
@@ -239,10 +240,10 @@ module _ (x : Settings) (r : Readings) (c : Cells) where
   unfolding folds turned_by stop_of fold_count fold_state fold
   stop cause = record { steps = λ s. refl }
 
-  by_phase : (p : Phase) (t : PhaseAfter) → Steps (Charging p) (phase_on x r c t)
+  by_phase : (p : Phase) (t : (ControlFlow Cause Phase)) → Steps (Charging p) (phase_on x r c t)
   unfolding phase_on folds turned_by fold_count fold_state
-  by_phase p (phase.On q) = record { steps = λ s. refl }
-  by_phase p (phase.Stop cause) = stop cause
+  by_phase p (Continue q) = record { steps = λ s. refl }
+  by_phase p (Break cause) = stop cause
 
   waiting_steps : (st : State) (b : ℕ) → Steps st (waiting_of r b st)
   unfolding waiting_of
@@ -293,10 +294,10 @@ module _ (x : Settings) (r : Readings) (c : Cells) where
   picked n true h k = h refl
   picked n false h k = k refl
 
-  phase_fits : (n : ℕ) (t : PhaseAfter) → Fitting n (phase_on x r c t)
+  phase_fits : (n : ℕ) (t : (ControlFlow Cause Phase)) → Fitting n (phase_on x r c t)
   unfolding phase_on stop_of
-  phase_fits n (phase.On p) = record { fitting = tt }
-  phase_fits n (phase.Stop cause) = record { fitting = tt }
+  phase_fits n (Continue p) = record { fitting = tt }
+  phase_fits n (Break cause) = record { fitting = tt }
 
   waiting_fits : (n b : ℕ) (st : State) → Fits st n → Fitting n (waiting_of r b st)
   unfolding waiting_of

@@ -3,6 +3,7 @@ ghost use Rattle.std.specs.Prelude.{◌≡◌};
 ghost use Rattle.session_states.specs.Phases.{start_phase, drive_rules, hold_rules, after_rest, phase_after, aged_of};
 
 use crate::{counts, limits};
+use std::ops::ControlFlow;
 use units::TenthAmps;
 
 #[derive(Clone, Copy)]
@@ -25,19 +26,15 @@ pub enum Phase {
 }
 
 // Why a charge stops: what EST byte 1 tells apart.
-#[derive(Clone, Copy)]
+#[derive(Clone, Copy, PartialEq, Eq)]
 pub enum Cause {
     PackVoltage,
     HoldCell,
     Other,
 }
 
-// What a tick makes of a phase.
-#[derive(Clone, Copy)]
-pub enum PhaseAfter {
-    On(Phase),
-    Stop(Cause),
-}
+// What a tick makes of a phase: the charge goes on in a phase, or breaks off for a cause.
+pub type PhaseAfter = ControlFlow<Cause, Phase>;
 
 // The first phase: the request is the smaller of the two maxima, and under the least it holds.
 #[tactic(auto, unfolding(crate::specs::Phases::start_phase))]
@@ -49,7 +46,7 @@ pub fn start_phase(maximum: TenthAmps, station: TenthAmps) -> Phase
         Phase::Hold { time: 0 }
     } else {
         Phase::Drive {
-            request: request,
+            request,
             cycle: 1,
             time: 0,
         }
@@ -61,18 +58,18 @@ fn drive_rules(request: TenthAmps, cycle: u8, time: u16, cell: bool) -> PhaseAft
     ensures { result ≡ drive_rules request cycle time cell }
 {
     if limits::DRIVE <= time {
-        PhaseAfter::Stop(Cause::Other)
+        ControlFlow::Break(Cause::Other)
     } else if cell {
-        PhaseAfter::On(Phase::Rest {
-            request: request,
-            cycle: cycle,
+        ControlFlow::Continue(Phase::Rest {
+            request,
+            cycle,
             time: 0,
         })
     } else {
-        PhaseAfter::On(Phase::Drive {
-            request: request,
-            cycle: cycle,
-            time: time,
+        ControlFlow::Continue(Phase::Drive {
+            request,
+            cycle,
+            time,
         })
     }
 }
@@ -82,11 +79,11 @@ fn hold_rules(time: u16, cell: bool) -> PhaseAfter
     ensures { result ≡ hold_rules time cell }
 {
     if limits::HOLD <= time {
-        PhaseAfter::Stop(Cause::Other)
+        ControlFlow::Break(Cause::Other)
     } else if cell {
-        PhaseAfter::Stop(Cause::HoldCell)
+        ControlFlow::Break(Cause::HoldCell)
     } else {
-        PhaseAfter::On(Phase::Hold { time: time })
+        ControlFlow::Continue(Phase::Hold { time })
     }
 }
 
@@ -125,10 +122,10 @@ impl Phase {
                 if limits::REST <= time {
                     after_rest(request, cycle, cell)
                 } else {
-                    PhaseAfter::On(Phase::Rest {
-                        request: request,
-                        cycle: cycle,
-                        time: time,
+                    ControlFlow::Continue(Phase::Rest {
+                        request,
+                        cycle,
+                        time,
                     })
                 }
             }
@@ -147,8 +144,8 @@ impl Phase {
                 cycle,
                 time,
             } => Phase::Drive {
-                request: request,
-                cycle: cycle,
+                request,
+                cycle,
                 time: counts::next_up_to(limits::DRIVE, time),
             },
             Phase::Rest {
@@ -156,8 +153,8 @@ impl Phase {
                 cycle,
                 time,
             } => Phase::Rest {
-                request: request,
-                cycle: cycle,
+                request,
+                cycle,
                 time: counts::next_up_to(limits::REST, time),
             },
             Phase::Hold { time } => Phase::Hold {

@@ -5,11 +5,11 @@ ghost use Rattle.session_states.specs.States.{is_idle};
 use crate::phases::Phase;
 use units::TenthAmps;
 
-// EST bytes 1 and 2: fixed at Stopping's first tick, and awaited until then where a message entered Stopping.
+// EST bytes 1 and 2.
 #[derive(Clone, Copy)]
-pub enum Est {
-    Awaited,
-    Fixed(u8, u8),
+pub struct Est {
+    pub first: u8,
+    pub second: u8,
 }
 
 #[derive(Clone, Copy)]
@@ -19,9 +19,16 @@ pub enum State {
     Unverified,
     Parameters,
     // Whether the last CMP was accepted, and the station's maximum current.
-    Ready { accepted: bool, maximum: TenthAmps },
+    Ready {
+        accepted: bool,
+        maximum: TenthAmps,
+    },
     Charging(Phase),
-    Stopping { acknowledged: bool, est: Est },
+    // EST's bytes are fixed at Stopping's first tick, and awaited until then where a message entered Stopping.
+    Stopping {
+        acknowledged: bool,
+        est: Option<Est>,
+    },
     Error,
 }
 
@@ -31,9 +38,6 @@ impl State {
     pub fn is_idle(self) -> bool
         ensures { result ≡ is_idle self }
     {
-        match self {
-            State::Idle => true,
-            _ => false,
-        }
+        matches!(self, State::Idle)
     }
 }
