@@ -2,4 +2,4 @@ pub mod Walks
 pub mod Values
 pub mod Pairs
 pub mod Held
-pub mod Most
+pub mod Conversions

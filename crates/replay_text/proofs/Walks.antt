@@ -1,12 +1,12 @@
 -- A walk along the text that passes each character of a kind: where it stops. Assumes nothing.
 use Prim.Native.Nat.{ℕ, suc, ◌+◌, ◌≤◌, ◌<◌}
-use mathlib.Core.Path.{◌≡◌, sym, ◌∙◌, ap}
+use mathlib.Core.Path.{◌≡◌, refl, sym, ◌∙◌, ap}
 use mathlib.Core.List.{List, [], ◌∷◌}
 use mathlib.Core.Bool.{Bool, true, false, cond}
 use native.Mathlib.Numerals.{add-one}
 use native.Mathlib.Omega.{arith}
-use lib.ListN.{length, get_or, drop, drop_of_length-le, length-drop}
-use lib.Seq.{drop-cons}
+use lib.ListN.{length, get_or, take, drop, drop_of_length-le, length-drop}
+use lib.Seq.{drop-cons, get_or-drop}
 use Rattle.replay_text.specs.Chars.{leading, past_all}
 
 -- a character that is there is the same whatever stands for one that is not
@@ -15,6 +15,17 @@ read_there text at a b h =
     let e : get_or text at a ∷ drop (suc at) text ≡ get_or text at b ∷ drop (suc at) text
     = sym (drop-cons text at a h) ∙ drop-cons text at b h in
     cc
+
+-- the characters from a place on, by their index
+module _ (text : List ℕ) (from : ℕ) {rest : List ℕ} (e : rest ≡ drop from text) (i : ℕ) where
+  pub rest_same : get_or rest i 0 ≡ get_or text (from + i) 0
+  rest_same = rw e (get_or-drop from text i 0)
+
+  pub rest_within : i < length rest → from + i < length text
+  rest_within h = omega (arith, ap length e, length-drop from text)
+
+  pub rest_over : length rest ≤ i → length text ≤ from + i
+  rest_over h = omega (arith, ap length e, length-drop from text)
 
 module _ (test : ℕ → Bool) (text : List ℕ) (at : ℕ) where
   -- a character that passes is the first of those at the front
@@ -67,3 +78,13 @@ pub past_within : (test : ℕ → Bool) (text : List ℕ) (at : ℕ) → past_al
 unfolding past_all
 past_within test text at =
     omega (arith, leading_least test (drop at text), length-drop at text)
+
+-- those at the front are as many first characters
+pub take_leading : (test : ℕ → Bool) (l : List ℕ) → take (length (leading test l)) l ≡ leading test l
+unfolding leading
+take_leading test [] = refl
+take_leading test (b ∷ l) =
+    elim (test b) as (λ (p : Bool). take (length (cond p (b ∷ leading test l) [])) (b ∷ l) ≡ cond p (b ∷ leading test l) []) [
+      | true ↦ ap (λ (k : List ℕ). b ∷ k) (take_leading test l)
+      | false ↦ refl
+    ]

@@ -1,7 +1,7 @@
 -- The text as it is held: a list of characters, 65,536 of them, each its number (docs/REPLAY.md, "Input"). A place is
 -- counted from 0.
 use Prim.Native.Char.{code}
-use Rattle.std.specs.Prelude.{ℕ, ◌+◌, Bool, cond, not, List, [], ◌∷◌, ◌++◌, ltb, eqb, length, get_or, drop}
+use Rattle.std.specs.Prelude.{ℕ, ◌+◌, ◌≡◌, ◌<◌, Bool, cond, not, List, [], ◌∷◌, ◌++◌, ltb, eqb, length, get_or, drop}
 
 -- the character that ends a line
 abbrev pub newline : ℕ
@@ -32,3 +32,7 @@ in_line b = not (eqb b newline)
 -- a list with others at its start, and the rest of it as it was
 unfoldable pub laid_first : List ℕ → List ℕ → List ℕ
 laid_first these old = these ++ drop (length these) old
+
+-- a closure may be asked of any character, and answers what a test does
+abbrev pub Tests : {F : Type 0} → (F → ℕ → Type 0) → (F → ℕ → Bool → Type 0) → F → (ℕ → Bool) → Type 0
+Tests pre post f test = (b : ℕ) → b < 256 → pre f b × ((r : Bool) → post f b r → r ≡ test b)

@@ -1,8 +1,6 @@
 -- Bytes in hex: two digits each, the high one first, with nothing between them (docs/REPLAY.md, "Input").
-use Rattle.std.specs.Prelude.{ℕ, ◌+◌, ◌*◌, Bool, true, false, cond, List, [], ◌∷◌, length, take}
-use Rattle.replay_text.specs.declared.hex.Hex.{Hex}
-use Rattle.replay_text.specs.declared.hex.Hex.TheVariants.{Bytes, Not}
-use Rattle.replay_text.specs.Digits.{digit_of, digits_from}
+use Rattle.std.specs.Prelude.{ℕ, ◌+◌, ◌*◌, Bool, true, false, cond, List, [], ◌∷◌, length, take, Option, None, Some}
+use Rattle.replay_text.specs.Digits.{digit_value, digits_from}
 
 -- as many digits as a line may have: 2,048 bytes
 abbrev pub most_hex : ℕ
@@ -16,7 +14,7 @@ hex_from text at = take most_hex (digits_from 16 text at)
 unfoldable pub pairs_of : List ℕ → List ℕ
 pairs_of [] = []
 pairs_of (a ∷ []) = []
-pairs_of (a ∷ b ∷ l) = (digit_of a * 16 + digit_of b) ∷ pairs_of l
+pairs_of (a ∷ b ∷ l) = (digit_value a * 16 + digit_value b) ∷ pairs_of l
 
 -- no digit is left over
 unfoldable pub whole_pairs : List ℕ → Bool
@@ -28,7 +26,7 @@ whole_pairs (a ∷ b ∷ l) = whole_pairs l
 unfoldable pub bytes_in : List ℕ → ℕ → List ℕ
 bytes_in text at = pairs_of (hex_from text at)
 
--- how many bytes, and the place past their digits; or half a byte
-unfoldable pub hex_in : List ℕ → ℕ → Hex
+-- how many bytes, and the place past their digits; none where half a byte is left over
+unfoldable pub hex_in : List ℕ → ℕ → Option (ℕ × ℕ)
 hex_in text at =
-    cond (whole_pairs (hex_from text at)) (Bytes (length (bytes_in text at)) (at + length (hex_from text at))) Not
+    cond (whole_pairs (hex_from text at)) (Some (length (bytes_in text at), at + length (hex_from text at))) None

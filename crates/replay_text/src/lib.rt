@@ -3,8 +3,8 @@
 // may not know what a line asks for, nor any controller.
 #![tactic(auto)]
 
-ghost use Rattle.std.specs.Prelude.{◌≡◌, length};
-ghost use Rattle.replay_text.specs.Chars.{byte_at, next_place};
+ghost use Rattle.std.specs.Prelude.{◌≡◌, ◌<◌, ℕ, Bool, drop};
+ghost use Rattle.replay_text.specs.Chars.{byte_at, next_place, past_all, Tests};
 
 pub mod digits;
 pub mod hex;
@@ -12,27 +12,45 @@ pub mod lines;
 pub mod numbers;
 pub mod words;
 
-// As much of the input as is held at once: whole lines, each with its newline, and the beginning of one more.
-pub type Text = [u8; 65536];
+// As many characters as are held at once.
+pub const SIZE: usize = 65536;
 
-// How many there are. Lent here, an array is known to have as many as its type says.
-pub fn length_of(s: &[u8]) -> usize
-    ensures { result ≡ length s.now }
-{
-    s.len()
-}
+// As much of the input as is held at once: whole lines, each with its newline, and the beginning of one more.
+pub type Text = [u8; SIZE];
 
 // The character at a place; past the text, a newline.
-pub fn byte_at(text: &Text, at: usize) -> u8
+pub fn byte_at(text: &[u8], at: usize) -> u8
     ensures { result ≡ byte_at text.now at }
 {
-    let n = length_of(text);
-    if at < n { text[at] } else { b'\n' }
+    text.get(at).copied().unwrap_or(b'\n')
 }
 
 // The next place, up to the end of the text.
 pub fn after(at: usize) -> usize
     ensures { result ≡ next_place at }
 {
-    if at < 65536 { at + 1 } else { 65536 }
+    at.min(SIZE - 1) + 1
+}
+
+// The characters from a place on; none past the text.
+fn rest(text: &[u8], from: usize) -> &[u8]
+    ensures { result.now ≡ drop from text.now }
+{
+    text.get(from..).unwrap_or(&[])
+}
+
+// The first place from one on where a character does not pass a test; the text's end where all do.
+fn past_all<F: Fn(u8) -> bool>(text: &[u8], from: usize, passes: F) -> usize
+    ghost test: { ℕ → Bool }
+    requires { Tests F.pre F.post passes test }
+    ensures { result ≡ past_all test text.now from }
+{
+    let mut at = from;
+    for b in rest(text, from) {
+        if !passes(*b) {
+            break;
+        }
+        at += 1;
+    }
+    at
 }

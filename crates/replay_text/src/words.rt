@@ -1,8 +1,8 @@
 // The words of a line, with spaces, tabs or carriage returns between them.
 ghost use Rattle.std.specs.Prelude.{◌≡◌};
-ghost use Rattle.replay_text.specs.Words.{is_gap, past_gaps, word_end, next_word, is_end, is_word};
+ghost use Rattle.replay_text.specs.Words.{is_gap, in_word, past_gaps, word_end, next_word, is_end, word_at};
 
-use crate::{Text, after, byte_at, length_of};
+use crate::{byte_at, past_all, rest};
 
 // The part of the text from a place up to another; empty where there is no word.
 #[derive(Clone, Copy)]
@@ -16,43 +16,34 @@ pub struct Word {
 pub fn is_gap(b: u8) -> bool
     ensures { result ≡ is_gap b }
 {
-    (b == b' ') | ((b == b'\t') | (b == b'\r'))
+    matches!(b, b' ' | b'\t' | b'\r')
+}
+
+// A word goes on over any other character of the line.
+#[tactic(auto, unfolding(crate::specs::Words::in_word))]
+fn in_word(b: u8) -> bool
+    ensures { result ≡ in_word b }
+{
+    !is_gap(b) && b != b'\n'
 }
 
 // The first place from one on that is no gap.
-pub fn past_gaps(text: &Text, from: usize) -> usize
+pub fn past_gaps(text: &[u8], from: usize) -> usize
     ensures { result ≡ past_gaps text.now from }
 {
-    let n = length_of(text);
-    let mut at = from;
-    while at < n {
-        if !is_gap(text[at]) {
-            break;
-        }
-        at += 1;
-    }
-    at
+    past_all(text, from, is_gap)
 }
 
 // The first place from one on where no word goes on.
-pub fn word_end(text: &Text, from: usize) -> usize
+pub fn word_end(text: &[u8], from: usize) -> usize
     ensures { result ≡ word_end text.now from }
 {
-    let n = length_of(text);
-    let mut at = from;
-    while at < n {
-        let b = text[at];
-        if is_gap(b) | (b == b'\n') {
-            break;
-        }
-        at += 1;
-    }
-    at
+    past_all(text, from, in_word)
 }
 
 // The first word from a place on.
 #[tactic(auto, unfolding(crate::specs::Words::next_word))]
-pub fn next_word(text: &Text, from: usize) -> Word
+pub fn next_word(text: &[u8], from: usize) -> Word
     ensures { result ≡ next_word text.now from }
 {
     let at = past_gaps(text, from);
@@ -64,26 +55,16 @@ pub fn next_word(text: &Text, from: usize) -> Word
 
 // Whether the line has no word from a place on.
 #[tactic(auto, unfolding(crate::specs::Words::is_end))]
-pub fn is_end(text: &Text, from: usize) -> bool
+pub fn is_end(text: &[u8], from: usize) -> bool
     ensures { result ≡ is_end text.now from }
 {
-    let at = past_gaps(text, from);
-    byte_at(text, at) == b'\n'
+    byte_at(text, past_gaps(text, from)) == b'\n'
 }
 
-// Whether the word that begins at a place is this one.
-pub fn is_word(text: &Text, from: usize, s: &[u8]) -> bool
-    ensures { result ≡ is_word text.now from s.now }
+// The characters of the word that begins at a place.
+pub fn word_at(text: &[u8], from: usize) -> &[u8]
+    ensures { result.now ≡ word_at text.now from }
 {
-    let n = s.len();
-    let mut at = from;
-    let mut i = 0;
-    while i < n {
-        if byte_at(text, at) != s[i] {
-            return false;
-        }
-        at = after(at);
-        i += 1;
-    }
-    word_end(text, at) == at
+    let n = word_end(text, from) - from;
+    &rest(text, from)[..n]
 }

@@ -1,51 +1,55 @@
-use Rattle.std.proofs.Common.{◌≡◌, ◌+◌, ◌-◌, ◌*◌, ◌<◌, ◌≤◌, ℕ, ap, ◌∙◌, arith}
-use borrow.Author.Tests.{lt-ltb}
-use Rattle.replay_text.specs.Chars.{byte_at, next_place}
-use Rattle.replay_text.specs.Digits.{digit_of}
-use Rattle.replay_text.proofs.Pairs.{read_none, read_more, read_all, read_half, none_left, half_left}
+use Rattle.std.proofs.Common.{◌≡◌, ◌+◌, ◌-◌, ◌*◌, sym, ◌∙◌, arith}
+use Rattle.replay_text.specs.Chars.{byte_at}
+use Rattle.replay_text.proofs.Pairs.{read_none, read_more, read_all, read_half, none_left, half_left, digit_small, digit_within}
 use Rattle.replay_text.proofs.hex.read_bytes.Goals as goal
 
 pub loop-n-init : goal.loop-n-init
 loop-n-init c = read_none _ _ _
 
-pub returns-then-b-ge16 : goal.returns-then-b-ge16
-returns-then-b-ge16 c =
-    let t = c.args.text.now in
-    let at = c.loop-n.at in
-    let first : c.digit_at-a.result < 16 = omega arith in
-    let p : next_place at ≡ at + 1 = rw (lt-ltb at 65536 (c.digit_at-a.ensures.within first)) in
-    let b : c.digit_at-b.result ≡ digit_of (byte_at t (at + 1))
-    = c.digit_at-b.ensures.value ∙ ap (λ (k : ℕ). digit_of (byte_at t k)) (c.after.ensures ∙ p) in
-    let r = read_half t c.args.from c.args.out.now c.loop-n.invariant (byte_at t at)
-    (half_left t c.loop-n.n at (omega arith) (rw c.digit_at-a.ensures.value at first) (rw b at c.if-b-ge16.true)) in
-    record { answer = r.0; later = r.1 }
+pub overflow_add-at : goal.overflow_add-at
+overflow_add-at c =
+    let w = digit_within c.args.text.now c.loop-n.at c.in-Some.high (sym c.digit_at.ensures ∙ c.in-Some.is) in
+    omega arith
+
+pub overflow_mul-out : goal.overflow_mul-out
+overflow_mul-out c =
+    let a = digit_small _ c.in-Some.high (sym c.digit_at.ensures ∙ c.in-Some.is) in
+    let b = digit_small _ c.in_ok-low.low (sym c.digit_at-in-loop-n.ensures ∙ c.in_ok-low.was) in
+    omega arith
+
+pub overflow_add-out : goal.overflow_add-out
+overflow_add-out c =
+    let a = digit_small _ c.in-Some.high (sym c.digit_at.ensures ∙ c.in-Some.is) in
+    let b = digit_small _ c.in_ok-low.low (sym c.digit_at-in-loop-n.ensures ∙ c.in_ok-low.was) in
+    omega arith
+
+pub overflow_add-at-in-loop-n : goal.overflow_add-at-in-loop-n
+overflow_add-at-in-loop-n c =
+    let w = digit_within c.args.text.now (c.loop-n.at + 1) c.in_ok-low.low (sym c.digit_at-in-loop-n.ensures ∙ c.in_ok-low.was) in
+    omega arith
 
 pub loop-n-preserved : goal.loop-n-preserved
 loop-n-preserved c =
-    let t = c.args.text.now in
-    let at = c.loop-n.at in
-    let first : c.digit_at-a.result < 16 = omega arith in
-    let second : c.digit_at-b.result < 16 = omega arith in
-    let p : next_place at ≡ at + 1 = rw (lt-ltb at 65536 (c.digit_at-a.ensures.within first)) in
-    let q = c.after.ensures ∙ p in
-    let b : c.digit_at-b.result ≡ digit_of (byte_at t (at + 1))
-    = c.digit_at-b.ensures.value ∙ ap (λ (k : ℕ). digit_of (byte_at t k)) q in
-    let n : at + 1 < 65536 = omega (arith, c.digit_at-b.ensures.within second) in
-    let e : c.after-at.result ≡ at + 1 + 1
-    = c.after-at.ensures ∙ rw (c.after-in-loop-n.ensures, p, lt-ltb (at + 1) 65536 n) in
-    rw (c.digit_at-a.ensures.value, b, e)
-    (read_more t c.args.from c.args.out.now c.loop-n.invariant (omega (arith, c.loop-n.invariant.long)) (omega arith)
-    (rw c.digit_at-a.ensures.value at first) (rw b at second))
+    read_more c.args.text.now c.args.from c.args.out.now c.loop-n.invariant (omega (arith, c.loop-n.invariant.long)) (omega arith)
+    c.in-Some.high c.in_ok-low.low (sym c.digit_at.ensures ∙ c.in-Some.is) (sym c.digit_at-in-loop-n.ensures ∙ c.in_ok-low.was)
 
-pub returns-after-loop-n : goal.returns-after-loop-n
-returns-after-loop-n c =
-    let z : 4096 - 2 * c.loop-n.n ≡ 0 = omega (arith, c.loop-n.invariant.room, c.loop-n.invariant.long) in
+pub returns-in_err-low : goal.returns-in_err-low
+returns-in_err-low c =
+    let t = c.args.text.now in
+    let h = half_left t c.loop-n.n c.loop-n.at (omega arith) c.in-Some.high (sym c.digit_at.ensures ∙ c.in-Some.is)
+    (sym c.digit_at-in-loop-n.ensures ∙ c.in_err-low.was) in
+    let r = read_half t c.args.from c.args.out.now c.loop-n.invariant (byte_at t c.loop-n.at) h in
+    record { answer = c.from_residual.ensures ∙ r.0; later = r.1 }
+
+pub returns-in_default : goal.returns-in_default
+returns-in_default c =
+    let n = none_left c.args.text.now c.loop-n.n c.loop-n.at (sym c.digit_at.ensures ∙ c.in_default.is) in
+    let r = read_all c.args.text.now c.args.from c.args.out.now c.loop-n.invariant n in
+    record { answer = r.0; later = r.1 }
+
+pub returns : goal.returns
+returns c =
+    let n : c.loop-n.n ≡ 2048 = omega arith in
+    let z : 4096 - 2 * c.loop-n.n ≡ 0 = omega arith in
     let r = read_all c.args.text.now c.args.from c.args.out.now c.loop-n.invariant (rw z) in
-    record { answer = r.0; later = r.1 }
-
-pub returns-then-a-ge16 : goal.returns-then-a-ge16
-returns-then-a-ge16 c =
-    let t = c.args.text.now in
-    let h : 16 ≤ digit_of (byte_at t c.loop-n.at) = rw c.digit_at-a.ensures.value at c.if-a-ge16.true in
-    let r = read_all t c.args.from c.args.out.now c.loop-n.invariant (none_left t c.loop-n.n c.loop-n.at h) in
-    record { answer = r.0; later = r.1 }
+    record { answer = rw (← n) r.0; later = r.1 }

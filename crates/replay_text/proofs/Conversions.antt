@@ -1,0 +1,84 @@
+-- A word read as a number; what the library's conversions make of one is what the definitions say. Assumes nothing.
+use Prim.Native.Nat.{ℕ, ◌+◌, ◌^◌, ◌≤◌}
+use mathlib.Core.List.{List}
+use mathlib.Core.Path.{◌≡◌, refl}
+use mathlib.Core.Bool.{Bool, true, false, cond}
+use native.Mathlib.Omega.{arith}
+use Rattle.std.proofs.lemmas.Int.{ints}
+use borrow.Author.Tests.{le-leb, lt-leb, leb-true, leb-false, eq-eqb, ne_eqb}
+use lib.Dec.{leb}
+use lib.IntN.{ℤ, pos, negsuc}
+use mir.Syntax.{w16}
+use Rattle.std.specs.Prelude.{option_map, option_and_then, Option, None, Some, Result, Ok, Err, unsigned_abs, OkIff, FitsSigned}
+use Rattle.std.specs.Int.{FitsUnsignedBits}
+use Rattle.std.specs.Result.{result_ok}
+use Rattle.replay_text.specs.declared.words.Word.{Word}
+use Rattle.replay_text.specs.declared.digits.Digits.{Digits}
+use Rattle.replay_text.specs.Chars.{byte_at}
+use Rattle.replay_text.specs.Words.{next_word, is_end}
+use Rattle.replay_text.specs.Digits.{digits_at}
+use Rattle.replay_text.specs.Numbers.{is_minus, past_sign, signed, number_of, number_in, up_to, of_16_bits, last_of, read_as, only_as, only_in}
+
+-- digits that end where the word does
+pub read_of : (text : List ℕ) (w : Word) (d : Digits) (at : ℕ) (minus : Bool) → at ≡ past_sign text w.from
+    → d ≡ digits_at 10 text at → (d.count ≡ 0 → ⊥) → d.at ≡ w.to → is_minus (byte_at text w.from) ≡ minus
+    → Some (signed minus d.value) ≡ number_in text w
+unfolding number_in number_of
+read_of text w d at minus p e n t m =
+    rw (← p, ← e, ne_eqb d.count 0 n, eq-eqb d.at w.to t, m)
+
+not_leb : (a b : ℕ) → (a ≤ b → ⊥) → leb a b ≡ false
+not_leb a b h = lt-leb a b (omega (arith, h))
+
+pub ok_up_to : {E : Type 0} (k most : ℕ) → 2 ^ k ≡ most + 1 → (x : ℤ) (r : Result ℕ E)
+    → OkIff r (FitsUnsignedBits k x) (unsigned_abs x) → result_ok r ≡ up_to most x
+unfolding up_to
+ok_up_to k most e (pos n) (Ok v) h = rw (le-leb n most (omega (arith, h.0, e)), h.1)
+ok_up_to k most e (pos n) (Err d) h = rw (not_leb n most (λ i. h (omega (arith, i, e))))
+ok_up_to k most e (negsuc n) (Ok v) h = absurd h.0
+ok_up_to k most e (negsuc n) (Err d) h = refl
+
+pub ok_16_bits : {E : Type 0} (x : ℤ) (r : Result ℤ E) → OkIff r (FitsSigned w16 x) x → result_ok r ≡ of_16_bits x
+unfolding of_16_bits
+ok_16_bits (pos n) (Ok v) h = let i : n ≤ 32767 = omega (arith, ints, h.0) in rw (le-leb n 32767 i, h.1)
+ok_16_bits (pos n) (Err d) h = rw (not_leb n 32767 (λ i. h (omega (arith, ints, i))))
+ok_16_bits (negsuc n) (Ok v) h = let i : n ≤ 32767 = omega (arith, ints, h.0) in rw (le-leb n 32767 i, h.1)
+ok_16_bits (negsuc n) (Err d) h = rw (not_leb n 32767 (λ i. h (omega (arith, ints, i))))
+
+-- a number that is read up to a bound is one that is read up to a larger one and tested
+abbrev pub tested : ℕ → Option ℕ → Option ℕ
+tested most None = None
+tested most (Some x) = cond (leb x most) (Some x) None
+
+module _ (text : List ℕ) (to big most : ℕ) (h : most ≤ big) where
+  abbrev last : ℕ → Option ℤ → Option ℕ
+  last most x = last_of text (option_map (λ n. (n, to)) (option_and_then (up_to most) x))
+
+  ended : (n : ℕ) (e p : Bool) → leb n most ≡ p → cond e (cond p (Some n) None) None ≡ tested most (cond e (Some n) None)
+  ended n true p t = rw t
+  ended n false p t = elim p [ true ↦ refl | false ↦ refl ]
+
+  last_pos : (n : ℕ) (p q : Bool) → leb n most ≡ p → leb n big ≡ q
+      → last most (Some (pos n)) ≡ tested most (last big (Some (pos n)))
+  unfolding up_to
+  last_pos n true true e f = rw (e, f) (ended n (is_end text to) true e)
+  last_pos n true false e f =
+      let a = leb-true n most e in
+      let b = leb-false n big f in
+      absurd (omega arith)
+  last_pos n false true e f =
+      rw (e, f)
+      (elim (is_end text to) as (λ (b : Bool). None ≡ tested most (cond b (Some n) None)) [ true ↦ rw e | false ↦ refl ])
+  last_pos n false false e f = rw (e, f)
+
+  last_tested : (x : Option ℤ) → last most x ≡ tested most (last big x)
+  unfolding up_to
+  last_tested None = refl
+  last_tested (Some (pos n)) = last_pos n (leb n most) (leb n big) refl refl
+  last_tested (Some (negsuc n)) = refl
+
+pub only_tested : (text : List ℕ) (from most : ℕ) → most ≤ 18446744073709551615
+    → only_in text from most ≡ tested most (only_as (up_to 18446744073709551615) text from)
+unfolding only_as read_as
+only_tested text from most h =
+    last_tested text (next_word text from).to 18446744073709551615 most h (number_in text (next_word text from))
