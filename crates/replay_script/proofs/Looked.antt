@@ -5,22 +5,19 @@ use mathlib.Core.List.{List}
 use mathlib.Core.Bool.{true, false}
 use lib.IntN.{ℤ}
 use Rattle.replay_text.specs.Words.{past_gaps}
+use Rattle.std.specs.Prelude.{Option, None, Some}
 use Rattle.replay_script.specs.declared.Asked.{Asked}
-use Rattle.replay_script.specs.declared.Asked.TheVariants.{Nothing, Unreadable}
+use Rattle.replay_script.specs.declared.Asked.TheVariants.{Nothing}
 use Rattle.replay_script.specs.declared.Kind.{Kind}
 use Rattle.replay_script.specs.Lines.{kind_in, asks_of, bytes_of, volts_of, temps_of}
 use Rattle.replay_script.specs.Lines.{is_ignored, is_longer, asked_in, bytes_after, volts_after, temps_after}
 
 -- the answer and the arrays after it, before and after
-module _ (r : Asked) (b b' v v' : List ℕ) (t t' : List ℤ) where
+module _ (r : Option Asked) (b b' v v' : List ℕ) (t t' : List ℤ) where
   abbrev pub Words : List ℕ → ℕ → Kind → Type 0
   Words text from k =
       (r ≡ asks_of text from k)
       × ((b' ≡ bytes_of text from b k) × ((v' ≡ volts_of text from v k) × (t' ≡ temps_of text from t k)))
-
-  pub by_kind : (text : List ℕ) (from : ℕ) (k : Kind) → kind_in text from ≡ k → Words text from k
-      → Words text from (kind_in text from)
-  by_kind text from k e h = rw e h
 
   abbrev pub Line : List ℕ → ℕ → ℕ → Type 0
   Line text at end =
@@ -33,10 +30,10 @@ module _ (r : Asked) (b b' v v' : List ℕ) (t t' : List ℤ) where
   looked_at text at end i l h = rw (i, l) h
 
 module _ (b v : List ℕ) (t : List ℤ) (text : List ℕ) (at end : ℕ) where
-  pub ignored : is_ignored text at ≡ true → Line Nothing b b v v t t text at end
+  pub ignored : is_ignored text at ≡ true → Line (Some Nothing) b b v v t t text at end
   unfolding asked_in bytes_after volts_after temps_after
   ignored i = rw i (refl, (refl, (refl, refl)))
 
-  pub too_long : is_ignored text at ≡ false → is_longer at end ≡ true → Line Unreadable b b v v t t text at end
+  pub too_long : is_ignored text at ≡ false → is_longer at end ≡ true → Line None b b v v t t text at end
   unfolding asked_in bytes_after volts_after temps_after
   too_long i l = rw (i, l) (refl, (refl, (refl, refl)))

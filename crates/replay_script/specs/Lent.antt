@@ -42,4 +42,3 @@ lent_after l (asked.Ticks n) = l
 lent_after l (asked.Frame id n) = l
 lent_after l (asked.Logged now id n) = l
 lent_after l (asked.Write n) = l
-lent_after l asked.Unreadable = l

@@ -1,18 +1,18 @@
 -- One line of a script (docs/REPLAY.md, "Input"): what it asks for, and what the arrays beside it then hold.
 use Prim.Native.Char.{code}
-use Rattle.std.specs.Prelude.{ℕ, ◌-◌, Bool, cond, not, ◌||◌, List, [], ◌∷◌, ltb, eqb, ℤ, pos}
+use Rattle.std.specs.Prelude.{ℕ, ◌-◌, Bool, cond, not, ◌||◌, List, [], ◌∷◌, length, ltb, eqb, ℤ, pos, Option, None, Some, option_map}
 use Prim.Native.String as quoted
 use Rattle.replay_text.specs.Chars.{newline, byte_at}
 use Rattle.replay_text.specs.Words.{past_gaps, word_end, is_word}
 use Rattle.replay_text.specs.Lines.{longest}
 use Rattle.replay_script.specs.declared.Asked.{Asked}
-use Rattle.replay_script.specs.declared.Asked.TheVariants.{Nothing, Unreadable}
+use Rattle.replay_script.specs.declared.Asked.TheVariants.{Nothing, Voltages, Temperatures}
 use Rattle.replay_script.specs.declared.Kind.{Kind}
 use Rattle.replay_script.specs.declared.Kind.TheVariants as kind
 use Rattle.replay_script.specs.Records.{record_in, record_bytes, write_in}
 use Rattle.replay_script.specs.Frames.{frame_in, frame_bytes, logged_in, logged_bytes}
 use Rattle.replay_script.specs.Ticks.{ticks_in, buffer_in, readings_in}
-use Rattle.replay_script.specs.Tables.{voltages_in, voltages_of, temperatures_in, temperatures_of, table_of}
+use Rattle.replay_script.specs.Tables.{voltages_in, temperatures_in, table_of}
 
 -- a word as the characters of the text
 abbrev pub spelled : quoted.String → List ℕ
@@ -32,11 +32,11 @@ kind_in text from =
     (cond (eqb (byte_at text from) (code "(")) kind.Logged kind.Frame)))))))
 
 -- what a line of a kind asks for whose first word begins at a place
-unfoldable pub asks_of : List ℕ → ℕ → Kind → Asked
+unfoldable pub asks_of : List ℕ → ℕ → Kind → Option Asked
 asks_of text from kind.Settings = record_in text (word_end text from)
 asks_of text from kind.Readings = readings_in text (word_end text from)
-asks_of text from kind.Voltages = voltages_of (voltages_in text (word_end text from))
-asks_of text from kind.Temperatures = temperatures_of (temperatures_in text (word_end text from))
+asks_of text from kind.Voltages = option_map (λ l. Voltages (length l)) (voltages_in text (word_end text from))
+asks_of text from kind.Temperatures = option_map (λ l. Temperatures (length l)) (temperatures_in text (word_end text from))
 asks_of text from kind.Buffer = buffer_in text (word_end text from)
 asks_of text from kind.Tick = ticks_in text (word_end text from)
 asks_of text from kind.Write = write_in text (word_end text from)
@@ -89,10 +89,10 @@ is_longer at end = ltb longest (end - at)
 
 -- what a line asks for that begins at a place and has its newline at another: nothing where it is ignored, however
 -- long; a longer one than a line may be cannot be read
-unfoldable pub asked_in : List ℕ → ℕ → ℕ → Asked
+unfoldable pub asked_in : List ℕ → ℕ → ℕ → Option Asked
 asked_in text at end =
-    cond (is_ignored text at) Nothing
-    (cond (is_longer at end) Unreadable (asks_of text (past_gaps text at) (kind_in text (past_gaps text at))))
+    cond (is_ignored text at) (Some Nothing)
+    (cond (is_longer at end) None (asks_of text (past_gaps text at) (kind_in text (past_gaps text at))))
 
 -- the words of the line are looked at
 abbrev pub is_looked_at : List ℕ → ℕ → ℕ → Bool

@@ -7,10 +7,13 @@ use crate::Asked;
 use readings::{Marks, Readings};
 use units::TenthVolts;
 
-// The cell tables: more than a tick takes, so that it can be seen to refuse.
-pub type Voltages = [u16; 512];
+// As many cells as a table has: more than a tick takes, so that it can be seen to refuse.
+pub const ENTRIES: usize = 512;
 
-pub type Temperatures = [i16; 512];
+// The cell tables.
+pub type Voltages = [u16; ENTRIES];
+
+pub type Temperatures = [i16; ENTRIES];
 
 // The readings, and how much of each table and of the buffer.
 #[derive(Clone, Copy)]
@@ -77,7 +80,7 @@ impl Lent {
 pub fn first_voltages() -> Voltages
     ensures { result ≡ first_voltages }
 {
-    let mut v = [0u16; 512];
+    let mut v = [0; ENTRIES];
     v[0] = 330;
     v
 }
@@ -86,7 +89,7 @@ pub fn first_voltages() -> Voltages
 pub fn first_temperatures() -> Temperatures
     ensures { result ≡ first_temperatures }
 {
-    let mut t = [0i16; 512];
+    let mut t = [0; ENTRIES];
     t[0] = 70;
     t
 }

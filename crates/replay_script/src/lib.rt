@@ -1,11 +1,7 @@
-// One line of a script, read as the call or the setting that it asks for: settings HEX                    a settings
-// record (`-`: no bytes); one that is accepted makes a fresh controller readings ST1 ST2 SOC CURRENT PACKV CAPACITY AF
-// LF AW LW voltages N N ..                 the cell tables that each later tick is lent temperatures N N .. buffer N
-// the length of the buffer that each later tick is lent tick [N]                        one tick, or N ID#DATA
-// a received frame, in hex (SECONDS.MICROS) IFACE ID#DATA  the same from a candump log, after the ticks that are due by
-// then write N                         the settings in use, into a buffer of N bytes Besides, what each tick is lent,
-// and which ticks are due by a log's clock. This crate may not know any controller, what a call comes to, nor any rule
-// of the paper.
+// One line of a script, read as the call or the setting that it asks for: a settings record, what each later tick is
+// lent (readings, cell tables, a buffer), ticks, a received frame, or the settings in use written (docs/REPLAY.md,
+// "Input", lists the kinds of line). Besides, what each tick is lent, and which ticks are due by a log's clock. This
+// crate may not know any controller, what a call comes to, nor any rule of the paper.
 #![tactic(auto)]
 
 ghost use Rattle.std.specs.Prelude.{◌≡◌};
@@ -16,7 +12,7 @@ use lent::{Temperatures, Voltages};
 use readings::Readings;
 use replay_text::hex::Bytes;
 use replay_text::lines::LONGEST;
-use replay_text::{Text, byte_at, words};
+use replay_text::{byte_at, words};
 
 pub mod clock;
 pub mod frames;
@@ -27,7 +23,7 @@ pub mod ticks;
 // What a line asks for: nothing; a settings record of so many bytes; the readings, so many voltages, so many
 // temperatures or a buffer of such a length lent to later ticks; so many ticks; a received frame, by its identifier and
 // the number of its data bytes; such a frame at a log's time, in microseconds; the settings in use written into so many
-// bytes. The bytes and the entries of tables stand in arrays beside it. A line that is none of these cannot be read.
+// bytes. The bytes and the entries of tables stand in arrays beside it.
 #[derive(Clone, Copy)]
 pub enum Asked {
     Nothing,
@@ -40,7 +36,6 @@ pub enum Asked {
     Frame(u32, usize),
     Logged(u64, u32, usize),
     Write(usize),
-    Unreadable,
 }
 
 // The kinds of line, by their first word.
@@ -59,7 +54,7 @@ enum Kind {
 
 // The kind of a line whose first word begins at a place; what no known word begins is a frame.
 #[tactic(auto, unfolding(crate::specs::Lines::kind_in))]
-fn kind_of(text: &Text, from: usize) -> Kind
+fn kind_of(text: &[u8], from: usize) -> Kind
     ensures { result ≡ kind_in text.now from }
 {
     if words::is_word(text, from, b"settings") {
@@ -92,12 +87,12 @@ fn kind_of(text: &Text, from: usize) -> Kind
 // What a line asks for whose first word begins at a place.
 #[tactic(auto, unfolding(crate::specs::Lines::asks_of, crate::specs::Lines::bytes_of, crate::specs::Lines::volts_of, crate::specs::Lines::temps_of))]
 fn read_words(
-    text: &Text,
+    text: &[u8],
     from: usize,
     bytes: &mut Bytes,
     v: &mut Voltages,
     t: &mut Temperatures,
-) -> Asked
+) -> Option<Asked>
     ensures answer { result ≡ asks_of text.now from (kind_in text.now from) }
     ensures bytes { bytes.new
         ≡ bytes_of text.now from bytes.old (kind_in text.now from) }
@@ -110,8 +105,8 @@ fn read_words(
     match kind_of(text, from) {
         Kind::Settings => settings::record(text, past, bytes),
         Kind::Readings => ticks::readings(text, past),
-        Kind::Voltages => ticks::voltages(text, past, v),
-        Kind::Temperatures => ticks::temperatures(text, past, t),
+        Kind::Voltages => ticks::entries(text, past, 0, v).map(Asked::Voltages),
+        Kind::Temperatures => ticks::entries(text, past, 0, t).map(Asked::Temperatures),
         Kind::Buffer => ticks::buffer(text, past),
         Kind::Tick => ticks::ticks(text, past),
         Kind::Write => settings::write(text, past),
@@ -124,20 +119,20 @@ fn read_words(
 fn longer(at: usize, end: usize) -> bool
     ensures { result ≡ is_longer at end }
 {
-    if at < end { LONGEST < end - at } else { false }
+    LONGEST < end.saturating_sub(at)
 }
 
-// What the line asks for that begins at a place and has its newline at another. The bytes that it gives are laid into
+// What the line asks for that begins at a place and has its newline at another; none where it cannot be read. The bytes that it gives are laid into
 // `bytes`, the entries of a table into that table; of a table that cannot be read nothing is kept. A blank line or a
 // comment is ignored, however long; any other may have 4,096 characters.
 pub fn read_line(
-    text: &Text,
+    text: &[u8],
     at: usize,
     end: usize,
     bytes: &mut Bytes,
     v: &mut Voltages,
     t: &mut Temperatures,
-) -> Asked
+) -> Option<Asked>
     ensures answer { result ≡ asked_in text.now at end }
     ensures bytes { bytes.new ≡ bytes_after text.now at end bytes.old }
     ensures volts { v.new ≡ volts_after text.now at end v.old }
@@ -146,10 +141,10 @@ pub fn read_line(
     let from = words::past_gaps(text, at);
     let b = byte_at(text, from);
     if (b == b'\n') | (b == b'#') {
-        return Asked::Nothing;
+        return Some(Asked::Nothing);
     }
     if longer(at, end) {
-        return Asked::Unreadable;
+        return None;
     }
     read_words(text, from, bytes, v, t)
 }

@@ -1,11 +1,11 @@
 -- A walk along the text that passes each character of a kind: where it stops. Assumes nothing.
 use Prim.Native.Nat.{ℕ, suc, ◌+◌, ◌≤◌, ◌<◌}
-use mathlib.Core.Path.{◌≡◌, refl, sym, ◌∙◌, ap}
+use mathlib.Core.Path.{◌≡◌, sym, ◌∙◌, ap}
 use mathlib.Core.List.{List, [], ◌∷◌}
 use mathlib.Core.Bool.{Bool, true, false, cond}
 use native.Mathlib.Numerals.{add-one}
 use native.Mathlib.Omega.{arith}
-use lib.ListN.{length, get_or, take, drop, drop_of_length-le, length-drop}
+use lib.ListN.{length, get_or, drop, drop_of_length-le, length-drop}
 use lib.Seq.{drop-cons, get_or-drop}
 use Rattle.replay_text.specs.Chars.{leading, past_all}
 
@@ -78,13 +78,3 @@ pub past_within : (test : ℕ → Bool) (text : List ℕ) (at : ℕ) → past_al
 unfolding past_all
 past_within test text at =
     omega (arith, leading_least test (drop at text), length-drop at text)
-
--- those at the front are as many first characters
-pub take_leading : (test : ℕ → Bool) (l : List ℕ) → take (length (leading test l)) l ≡ leading test l
-unfolding leading
-take_leading test [] = refl
-take_leading test (b ∷ l) =
-    elim (test b) as (λ (p : Bool). take (length (cond p (b ∷ leading test l) [])) (b ∷ l) ≡ cond p (b ∷ leading test l) []) [
-      | true ↦ ap (λ (k : List ℕ). b ∷ k) (take_leading test l)
-      | false ↦ refl
-    ]

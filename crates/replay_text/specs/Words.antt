@@ -1,8 +1,8 @@
 -- Words are separated by spaces or tabs, and a carriage return counts as one (docs/REPLAY.md, "Input").
 use Prim.Native.Char.{code}
-use Rattle.std.specs.Prelude.{ℕ, Bool, not, ◌&&◌, ◌||◌, List, [], ◌∷◌, eqb, drop}
+use Rattle.std.specs.Prelude.{ℕ, Bool, not, ◌&&◌, ◌||◌, List, [], ◌∷◌, eqb}
 use Rattle.replay_text.specs.declared.words.Word.{Word}
-use Rattle.replay_text.specs.Chars.{newline, byte_at, next_place, leading, past_all}
+use Rattle.replay_text.specs.Chars.{newline, byte_at, next_place, past_all}
 
 -- a space, a tab or a carriage return
 unfoldable pub is_gap : ℕ → Bool
@@ -32,7 +32,3 @@ is_end text at = eqb (byte_at text (past_gaps text at)) newline
 unfoldable pub is_word : List ℕ → ℕ → List ℕ → Bool
 is_word text at [] = eqb (word_end text at) at
 is_word text at (b ∷ s) = eqb (byte_at text at) b && is_word text (next_place at) s
-
--- the characters of the word that begins at a place
-unfoldable pub word_at : List ℕ → ℕ → List ℕ
-word_at text at = leading in_word (drop at text)

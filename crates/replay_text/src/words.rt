@@ -1,8 +1,8 @@
 // The words of a line, with spaces, tabs or carriage returns between them.
 ghost use Rattle.std.specs.Prelude.{◌≡◌};
-ghost use Rattle.replay_text.specs.Words.{is_gap, in_word, past_gaps, word_end, next_word, is_end, word_at};
+ghost use Rattle.replay_text.specs.Words.{is_gap, in_word, past_gaps, word_end, next_word, is_end, is_word};
 
-use crate::{byte_at, past_all, rest};
+use crate::{after, byte_at, past_all};
 
 // The part of the text from a place up to another; empty where there is no word.
 #[derive(Clone, Copy)]
@@ -61,10 +61,17 @@ pub fn is_end(text: &[u8], from: usize) -> bool
     byte_at(text, past_gaps(text, from)) == b'\n'
 }
 
-// The characters of the word that begins at a place.
-pub fn word_at(text: &[u8], from: usize) -> &[u8]
-    ensures { result.now ≡ word_at text.now from }
+// Whether the word that begins at a place is this one.
+pub fn is_word(text: &[u8], from: usize, s: &[u8]) -> bool
+    ensures { result ≡ is_word text.now from s.now }
 {
-    let n = word_end(text, from) - from;
-    &rest(text, from)[..n]
+    // Stays a walk: `is_word` reads a newline past the text, where a slice to compare has ended.
+    let mut at = from;
+    for b in s {
+        if byte_at(text, at) != *b {
+            return false;
+        }
+        at = after(at);
+    }
+    word_end(text, at) == at
 }

@@ -1,4 +1,4 @@
-use Rattle.std.proofs.Common.{ℕ, List, ◌≡◌, ◌≤◌, sym, ◌∙◌, arith}
+use Rattle.std.proofs.Common.{ℕ, List, ◌≡◌, None, refl, sym, ◌∙◌}
 use Prim.Native.Char.{code}
 use Rattle.replay_text.specs.Chars.{newline, byte_at, laid_first}
 use Rattle.replay_text.specs.Digits.{digit_of}
@@ -7,18 +7,18 @@ use Rattle.replay_text.proofs.Pairs.{no_bytes}
 use Rattle.replay_script.proofs.settings.record.Goals as goal
 
 -- where no digit begins, nothing is laid
-unread : (text : List ℕ) (from b : ℕ) (old : List ℕ) → byte_at text from ≡ b → 16 ≤ digit_of b
+unread : (text : List ℕ) (from b : ℕ) (old : List ℕ) → byte_at text from ≡ b → digit_of b ≡ None
     → old ≡ laid_first (bytes_in text from) old
 unfolding laid_first
 unread text from b old e h = rw (no_bytes text from (rw e h))
 
-newline_none : 16 ≤ digit_of newline
+newline_none : digit_of newline ≡ None
 unfolding digit_of
-newline_none = omega arith
+newline_none = refl
 
-hyphen_none : 16 ≤ digit_of (code "-")
+hyphen_none : digit_of (code "-") ≡ None
 unfolding digit_of
-hyphen_none = omega arith
+hyphen_none = refl
 
 pub returns-then-b-eq10-clause-later : goal.returns-then-b-eq10-clause-later
 returns-then-b-eq10-clause-later c =
