@@ -3,6 +3,8 @@
 // asks for, how an answer is printed, nor any rule of the paper.
 #![tactic(auto)]
 
+ghost use Rattle.std.specs.Prelude.{◌≤◌};
+
 use replay_host::lines::Run;
 use replay_print::out::Out;
 use replay_print::{Buffer, out};
@@ -32,7 +34,9 @@ fn fill<I: Read>(input: &mut I, buf: &mut [u8], from: usize) -> usize {
 }
 
 // How much is held after a read of so many bytes; at the input's end one more, the newline that ends the last line.
-fn or_end(text: &mut Text, filled: usize, count: usize) -> usize {
+fn or_end(text: &mut Text, filled: usize, count: usize) -> usize
+    ensures { result ≤ 65536 }
+{
     if filled < 65536 {
         if count == 0 {
             text[filled] = b'\n';
@@ -60,7 +64,7 @@ fn chunk<I: Read, R: Print>(
 ) -> Place {
     let count = fill(input, text, p.filled);
     let n = or_end(text, p.filled, count);
-    let last = lines::past_last(text, n);
+    let last = lines::past_last(&text[..n]);
     let r = replay_host::lines::carry_out_lines(rt, p.run, text, last, bytes, v, t, buf, o);
     let begun = lines::moved(text, last, n);
     Place {

@@ -18,12 +18,12 @@ use Rattle.replay_script.specs.Lines.{asked_in, bytes_after, volts_after, temps_
 use Rattle.replay_script.specs.declared.Asked.TheVariants as asks
 use Rattle.replay_script.specs.declared.Asked.{Asked}
 use Rattle.replay_script.specs.declared.clock.Clock.{Clock}
-use Rattle.replay_script.specs.declared.clock.Due.{Due}
+use Rattle.std.specs.Prelude.{Option, None as nothing}
 use Rattle.replay_script.specs.declared.lent.Lent.{Lent}
 use Rattle.replay_text.specs.Lines.{line_end}
-use Rattle.replay_host.specs.Host.{Keeps, Outcome, keeps_of, Comes, only, absent_for, absent_done}
+use Rattle.replay_host.specs.Host.{Keeps, Outcome, keeps_of, Comes, only, absent_for, absent_done, unreadable_done}
 use Rattle.replay_host.specs.Lines.{World, Carried, world_of, and_then, logged_done, logged_buffer, logged_clock}
-use Rattle.replay_host.specs.Lines.{calls_done, calls_buffer, clock_after, carried_out, line_read, line_done, lines_up_to}
+use Rattle.replay_host.specs.Lines.{calls_done, calls_buffer, clock_after, carried_out, line_of, line_read, line_done, lines_up_to}
 use Rattle.replay_host.specs.Lines.{lines_done, CarriesOut}
 use Rattle.replay_calls.specs.Counts.{next_number}
 use Rattle.replay_host.specs.declared.held.Held.TheVariants.{None, Of}
@@ -51,7 +51,7 @@ absent_keeps x = kept_for x.held x
 
 module _ {old new : List ℕ} {at : ℕ} {r : Kept} {later : List ℕ} (w : World) where
   -- a frame of a log, by what is due
-  pub logged_by : (d e : Due) (id n : ℕ) → d ≡ e → Comes old at new r (logged_done e id n w) × (later ≡ logged_buffer e w)
+  pub logged_by : (d e : Option (ℕ × Clock)) (id n : ℕ) → d ≡ e → Comes old at new r (logged_done e id n w) × (later ≡ logged_buffer e w)
       → Comes old at new r (logged_done d id n w) × (later ≡ logged_buffer d w)
   logged_by d e id n h p = rw h p
 
@@ -74,17 +74,16 @@ rest_calls (asks.Ticks n) w h = absurd (miss (0 ∷ 2 ∷ 3 ∷ 4 ∷ 5 ∷ []) 
 rest_calls (asks.Frame id n) w h = absurd (miss (0 ∷ 2 ∷ 3 ∷ 4 ∷ 5 ∷ []) 7 tt h)
 rest_calls (asks.Logged now id n) w h = absurd (miss (0 ∷ 2 ∷ 3 ∷ 4 ∷ 5 ∷ []) 8 tt h)
 rest_calls (asks.Write n) w h = absurd (miss (0 ∷ 2 ∷ 3 ∷ 4 ∷ 5 ∷ []) 9 tt h)
-rest_calls asks.Unreadable w h = absurd (miss (0 ∷ 2 ∷ 3 ∷ 4 ∷ 5 ∷ []) 10 tt h)
 
 -- a log's clock, by what is due
-pub clock_by : (asked : Asked) (c : Clock) (now id n : ℕ) (d : Due) → asked ≡ asks.Logged now id n → due_of c now ≡ d
+pub clock_by : (asked : Asked) (c : Clock) (now id n : ℕ) (d : Option (ℕ × Clock)) → asked ≡ asks.Logged now id n → due_of c now ≡ d
     → logged_clock d c ≡ clock_after asked c
 unfolding clock_after
 clock_by asked c now id n d e f = rw (e, f)
 
 -- no other line moves it
 pub rest_clock : (asked : Asked) (c : Clock)
-    → OneOf (0 ∷ 1 ∷ 2 ∷ 3 ∷ 4 ∷ 5 ∷ 6 ∷ 7 ∷ 9 ∷ 10 ∷ []) (tag_of the_type asked) → c ≡ clock_after asked c
+    → OneOf (0 ∷ 1 ∷ 2 ∷ 3 ∷ 4 ∷ 5 ∷ 6 ∷ 7 ∷ 9 ∷ []) (tag_of the_type asked) → c ≡ clock_after asked c
 unfolding clock_after
 rest_clock asks.Nothing c h = refl
 rest_clock (asks.Settings n) c h = refl
@@ -94,9 +93,8 @@ rest_clock (asks.Temperatures n) c h = refl
 rest_clock (asks.Buffer n) c h = refl
 rest_clock (asks.Ticks n) c h = refl
 rest_clock (asks.Frame id n) c h = refl
-rest_clock (asks.Logged now id n) c h = absurd (miss (0 ∷ 1 ∷ 2 ∷ 3 ∷ 4 ∷ 5 ∷ 6 ∷ 7 ∷ 9 ∷ 10 ∷ []) 8 tt h)
+rest_clock (asks.Logged now id n) c h = absurd (miss (0 ∷ 1 ∷ 2 ∷ 3 ∷ 4 ∷ 5 ∷ 6 ∷ 7 ∷ 9 ∷ []) 8 tt h)
 rest_clock (asks.Write n) c h = refl
-rest_clock asks.Unreadable c h = refl
 
 -- a line carried out, from its parts
 pub carries : {old new : List ℕ} {at : ℕ} (asked : Asked) (w : World) (k : Kept) (l : Lent) (c : Clock) (later : List ℕ)
@@ -109,13 +107,22 @@ unfolding carried_out
 carries asked w k l c later p el ec =
     record { world = rw (p.0.kept, p.1, el, ec); prints = p.0.prints }
 
+-- a line that cannot be read
+pub unreadable_by : {old new : List ℕ} {at : ℕ} (asked : Option Asked) (w : World) (k : Kept) → asked ≡ nothing
+    → Comes old at new k (unreadable_done w.number w.keeps)
+    → CarriesOut old at new k.out
+    (world_of (record { kept = k; lent = w.lent; clock = w.clock; number = w.number }) w.bytes w.volts w.temps w.buffer)
+    (line_of asked w)
+unfolding line_of unreadable_done
+unreadable_by asked w k e p = rw e (record { world = rw p.kept; prints = p.prints })
+
 -- a line that was read
-pub line_by : (text : List ℕ) (at end number : ℕ) (w : World) (asked : Asked) (bytes volts : List ℕ) (temps : List ℤ)
+pub line_by : (text : List ℕ) (at end number : ℕ) (w : World) (asked : Option Asked) (bytes volts : List ℕ) (temps : List ℤ)
     → end ≡ line_end text at → number ≡ next_number w.number
     → (asked ≡ asked_in text at end)
     × ((bytes ≡ bytes_after text at end w.bytes)
     × ((volts ≡ volts_after text at end w.volts) × (temps ≡ temps_after text at end w.temps)))
-    → carried_out asked
+    → line_of asked
     (record {
       keeps = w.keeps;
       lent = w.lent;

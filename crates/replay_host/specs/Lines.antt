@@ -1,11 +1,9 @@
 -- Lines carried out: what each makes of a run by what it asks for (docs/REPLAY.md, "Input"), and all of them in turn.
-use Rattle.std.specs.Prelude.{ℕ, zero, suc, ◌+◌, ◌≡◌, cond, ◌&&◌, List, [], ◌++◌, ltb, ℤ, take}
+use Rattle.std.specs.Prelude.{ℕ, zero, suc, ◌+◌, ◌≡◌, cond, ◌&&◌, List, [], ◌++◌, ltb, ℤ, take, Option, None, Some}
 use Rattle.replay_text.specs.Lines.{line_end}
 use Rattle.replay_script.specs.declared.Asked.{Asked}
 use Rattle.replay_script.specs.declared.Asked.TheVariants as asks
 use Rattle.replay_script.specs.declared.clock.Clock.{Clock}
-use Rattle.replay_script.specs.declared.clock.Due.{Due}
-use Rattle.replay_script.specs.declared.clock.Due.TheVariants as due
 use Rattle.replay_script.specs.declared.lent.Lent.{Lent}
 use Rattle.replay_script.specs.Clocks.{due_of, unset_clock}
 use Rattle.replay_script.specs.Lent.{lent_after, first_lent}
@@ -65,17 +63,17 @@ abbrev pub buffer_in : World → ℕ → List ℕ
 buffer_in w n = ticks_buffer w.lent w.volts w.temps n w.buffer w.keeps
 
 -- a frame of a log, after the ticks that are due; where they are too many the line is unreadable
-unfoldable pub logged_done : Due → ℕ → ℕ → World → Outcome
-logged_done (due.Ticks n later) id k w = and_then (ticks_in w n w.keeps) (frame_done id (take k w.bytes))
-logged_done due.TooMany id k w = unreadable_done w.number w.keeps
+unfoldable pub logged_done : Option (ℕ × Clock) → ℕ → ℕ → World → Outcome
+logged_done (Some d) id k w = and_then (ticks_in w d.0 w.keeps) (frame_done id (take k w.bytes))
+logged_done None id k w = unreadable_done w.number w.keeps
 
-unfoldable pub logged_buffer : Due → World → List ℕ
-logged_buffer (due.Ticks n later) w = buffer_in w n
-logged_buffer due.TooMany w = w.buffer
+unfoldable pub logged_buffer : Option (ℕ × Clock) → World → List ℕ
+logged_buffer (Some d) w = buffer_in w d.0
+logged_buffer None w = w.buffer
 
-unfoldable pub logged_clock : Due → Clock → Clock
-logged_clock (due.Ticks n later) c = later
-logged_clock due.TooMany c = c
+unfoldable pub logged_clock : Option (ℕ × Clock) → Clock → Clock
+logged_clock (Some d) c = d.1
+logged_clock None c = c
 
 -- the calls that a line asks for: what is kept after them, and what is printed
 unfoldable pub calls_done : Asked → World → Outcome
@@ -89,7 +87,6 @@ calls_done (asks.Ticks n) w = and_then (absent_done w.keeps) (ticks_in w n)
 calls_done (asks.Frame id n) w = frame_done id (take n w.bytes) w.keeps
 calls_done (asks.Logged now id n) w = logged_done (due_of w.clock now) id n w
 calls_done (asks.Write n) w = write_done n w.buffer w.keeps
-calls_done asks.Unreadable w = unreadable_done w.number w.keeps
 
 -- the buffer after them
 unfoldable pub calls_buffer : Asked → World → List ℕ
@@ -103,7 +100,6 @@ calls_buffer (asks.Ticks n) w = buffer_in w n
 calls_buffer (asks.Frame id n) w = w.buffer
 calls_buffer (asks.Logged now id n) w = logged_buffer (due_of w.clock now) w
 calls_buffer (asks.Write n) w = write_buffer n w.buffer w.keeps.held
-calls_buffer asks.Unreadable w = w.buffer
 
 -- a log's clock after a line: only a frame of a log moves it
 unfoldable pub clock_after : Asked → Clock → Clock
@@ -117,7 +113,6 @@ clock_after (asks.Ticks n) c = c
 clock_after (asks.Frame id n) c = c
 clock_after (asks.Logged now id n) c = logged_clock (due_of c now) c
 clock_after (asks.Write n) c = c
-clock_after asks.Unreadable c = c
 
 -- what a line asks for, carried out
 unfoldable pub carried_out : Asked → World → Carried
@@ -137,6 +132,11 @@ carried_out asked w =
       text = (calls_done asked w).text;
     }
 
+-- a line, by what it asks for; one that cannot be read changes nothing
+unfoldable pub line_of : Option Asked → World → Carried
+line_of (Some asked) w = carried_out asked w
+line_of None w = record { world = w; text = (unreadable_done w.number w.keeps).text }
+
 -- the line that begins at a place, read: it is counted, and what it gives is laid into the arrays
 unfoldable pub line_read : List ℕ → ℕ → World → World
 line_read text at w =
@@ -153,7 +153,7 @@ line_read text at w =
 
 -- and carried out
 unfoldable pub line_done : List ℕ → ℕ → World → Carried
-line_done text at w = carried_out (asked_in text at (line_end text at)) (line_read text at w)
+line_done text at w = line_of (asked_in text at (line_end text at)) (line_read text at w)
 
 -- some lines, then others
 abbrev pub before : Carried → Carried → Carried

@@ -2,14 +2,14 @@
 ghost use Rattle.std.specs.Prelude.{◌≡◌};
 ghost use Rattle.replay_host.specs.Host.{Comes};
 ghost use Rattle.replay_host.specs.Lines.{world_of, start_run, calls_done, calls_buffer};
-ghost use Rattle.replay_host.specs.Lines.{clock_after, carried_out, lines_done, CarriesOut};
+ghost use Rattle.replay_host.specs.Lines.{clock_after, carried_out, line_of, lines_done, CarriesOut};
 
 use crate::held::Kept;
 use replay_calls::counts;
 use replay_print::Buffer;
 use replay_print::out::Out;
 use replay_script::Asked;
-use replay_script::clock::{Clock, Due};
+use replay_script::clock::Clock;
 use replay_script::lent::{Lent, Temperatures, Voltages};
 use replay_text::hex::Bytes;
 use replay_text::{Text, lines};
@@ -68,15 +68,14 @@ impl Run {
             Asked::Logged(now, id, n) => {
                 let clock = self.clock;
                 match clock.due(now) {
-                    Due::Ticks(due, _) => {
+                    Some((due, _)) => {
                         let ticked = k.ticks(rt, due, self.lent, v, t, buf, o);
                         ticked.frame(rt, id, bytes, n, o)
                     }
-                    Due::TooMany => k.unreadable(rt, self.number, o),
+                    None => k.unreadable(rt, self.number, o),
                 }
             }
             Asked::Write(n) => k.write(rt, n, buf, o),
-            Asked::Unreadable => k.unreadable(rt, self.number, o),
             _ => k,
         }
     }
@@ -105,6 +104,37 @@ impl Run {
             number: self.number,
         }
     }
+
+    // A line carried out; of one that cannot be read, that is printed.
+    #[tactic(auto, unfolding(crate::specs::Lines::line_of))]
+    fn line<R: Print>(
+        self,
+        rt: &R,
+        asked: Option<Asked>,
+        bytes: &Bytes,
+        v: &Voltages,
+        t: &Temperatures,
+        buf: &mut Buffer,
+        o: &mut Out,
+    ) -> Run
+        ensures { CarriesOut o.old self.kept.out o.new result.kept.out
+            (world_of result bytes.now v.now t.now buf.new)
+            (line_of asked
+            (world_of self bytes.now v.now t.now buf.old)) }
+    {
+        match asked {
+            Some(call) => self.carry_out(rt, call, bytes, v, t, buf, o),
+            None => {
+                let k = self.kept;
+                Run {
+                    kept: k.unreadable(rt, self.number, o),
+                    lent: self.lent,
+                    clock: self.clock,
+                    number: self.number,
+                }
+            }
+        }
+    }
 }
 
 // A log's clock after a line: only a frame of a log moves it.
@@ -114,8 +144,8 @@ fn clock_after(c: Clock, asked: Asked) -> Clock
 {
     match asked {
         Asked::Logged(now, _, _) => match c.due(now) {
-            Due::Ticks(_, later) => later,
-            Due::TooMany => c,
+            Some((_, later)) => later,
+            None => c,
         },
         _ => c,
     }
@@ -147,7 +177,7 @@ pub fn carry_out_lines<R: Print>(
         let end = lines::line_end(text, at);
         let asked = replay_script::read_line(text, at, end, bytes, v, t);
         r.number = counts::next(r.number);
-        r = r.carry_out(rt, asked, bytes, v, t, buf, o);
+        r = r.line(rt, asked, bytes, v, t, buf, o);
         at = end + 1;
     }
     r

@@ -13,7 +13,7 @@ loop-at-preserved g c =
     let w = world_of l.r l.bytes l.v l.t l.buf in
     let a = c.read_line-asked.ensures in
     left_next c.args.text.now c.args.last l.at _ c.loop-at-test.true c.if-last-at.false l.invariant e.0 e.2
-    (carries_eq c.carry_out-r.ensures
+    (carries_eq c.line-r.ensures
     (line_by c.args.text.now l.at _ _ w _ _ _ _ e.2 c.next.ensures (a.answer, (a.bytes, (a.volts, a.temps)))))
 
 pub returns-after-loop-at : goal.returns-after-loop-at

@@ -3,10 +3,10 @@ use Rattle.replay_host.specs.Lines.{logged_clock}
 use Rattle.replay_host.proofs.Carrying.{clock_by}
 use Rattle.replay_host.proofs.lines.clock_after.Goals as goal
 
-pub returns-in-Ticks : goal.returns-in-Ticks
+pub returns-in-Some : goal.returns-in-Some
 unfolding logged_clock
-returns-in-Ticks c = clock_by c.args.asked c.args.c _ _ _ _ c.in-Logged.is (sym c.in-Ticks.ensures)
+returns-in-Some c = clock_by c.args.asked c.args.c _ _ _ _ c.in-Logged.is (sym c.in-Some.ensures)
 
-pub returns-in-TooMany : goal.returns-in-TooMany
+pub returns-in-None : goal.returns-in-None
 unfolding logged_clock
-returns-in-TooMany c = clock_by c.args.asked c.args.c _ _ _ _ c.in-Logged.is (sym c.in-TooMany.ensures)
+returns-in-None c = clock_by c.args.asked c.args.c _ _ _ _ c.in-Logged.is (sym c.in-None.ensures)

@@ -33,24 +33,24 @@ returns-in-Frame g c =
     let r = calls_by w _ _ c.in-Frame.is (c.frame.ensures, refl) in
     record { comes = r.0; buf_after = r.1 }
 
-pub returns-in-Ticks-due : goal.returns-in-Ticks-due
+pub returns-in-Some : goal.returns-in-Some
 unfolding calls_done calls_buffer logged_done logged_buffer
-returns-in-Ticks-due g c =
+returns-in-Some g c =
     let w = world_of c.args.self c.args.bytes.now c.args.v.now c.args.t.now c.args.buf.now in
     let r = calls_by w _ _ c.in-Logged.is
-    (logged_by w _ _ _ _ (sym c.in-Ticks-due.ensures) (
+    (logged_by w _ _ _ _ (sym c.in-Some.ensures) (
       comes_then (frame_done c.in-Logged.id (take c.in-Logged.n c.args.bytes.now)) c.ticks-ticked.ensures.comes
-          c.frame-in-Ticks-due.ensures,
+          c.frame-in-Some.ensures,
       c.ticks-ticked.ensures.buf_after,
     )) in
     record { comes = r.0; buf_after = r.1 }
 
-pub returns-in-TooMany : goal.returns-in-TooMany
+pub returns-in-None : goal.returns-in-None
 unfolding calls_done calls_buffer logged_done logged_buffer
-returns-in-TooMany g c =
+returns-in-None g c =
     let w = world_of c.args.self c.args.bytes.now c.args.v.now c.args.t.now c.args.buf.now in
     let r = calls_by w _ _ c.in-Logged.is
-    (logged_by w _ _ _ _ (sym c.in-TooMany.ensures) (c.unreadable.ensures, refl)) in
+    (logged_by w _ _ _ _ (sym c.in-None.ensures) (c.unreadable.ensures, refl)) in
     record { comes = r.0; buf_after = r.1 }
 
 pub returns-in-Write : goal.returns-in-Write
@@ -58,13 +58,6 @@ unfolding calls_done calls_buffer
 returns-in-Write g c =
     let w = world_of c.args.self c.args.bytes.now c.args.v.now c.args.t.now c.args.buf.now in
     let r = calls_by w _ _ c.in-Write.is (c.write.ensures.comes, c.write.ensures.buf_after) in
-    record { comes = r.0; buf_after = r.1 }
-
-pub returns-in-Unreadable : goal.returns-in-Unreadable
-unfolding calls_done calls_buffer
-returns-in-Unreadable g c =
-    let w = world_of c.args.self c.args.bytes.now c.args.v.now c.args.t.now c.args.buf.now in
-    let r = calls_by w _ _ c.in-Unreadable.is (c.unreadable-in-Unreadable.ensures, refl) in
     record { comes = r.0; buf_after = r.1 }
 
 pub returns-in_default-clause-comes : goal.returns-in_default-clause-comes
