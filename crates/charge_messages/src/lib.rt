@@ -3,7 +3,8 @@
 // brings about.
 #![tactic(auto)]
 
-ghost use Rattle.std.specs.Prelude.{◌≡◌, get_or};
+ghost use Rattle.std.specs.Prelude.{◌≡◌, get_or, cond, eqb, true, false};
+ghost use Rattle.numbers.specs.declared.Refusal.TheVariants.{ContentNotAllowed as NotAllowed};
 ghost use Rattle.charge_messages.specs.Content.{cim_of, cvm_of, cmp_of, crm_of, ccs_of, cst_of, cem_of, content_of, refusal_of};
 ghost use Rattle.numbers.specs.Numbers.{answered};
 
@@ -42,14 +43,21 @@ fn cim(a: u8, b: u8, c: u8) -> Result<ChargeMessage, Refusal>
     }
 }
 
+// AA is true and 00 false.
+fn mark(b: u8) -> Result<bool, Refusal>
+    ensures { result ≡ cond (eqb b 0xaa) (Ok true) (cond (eqb b 0x00) (Ok false) (Err NotAllowed)) }
+{
+    match b {
+        0xaa => Ok(true),
+        0 => Ok(false),
+        _ => Err(Refusal::ContentNotAllowed),
+    }
+}
+
 fn cvm(a: u8) -> Result<ChargeMessage, Refusal>
     ensures { result ≡ cvm_of a }
 {
-    match a {
-        0xaa => Ok(ChargeMessage::Cvm(true)),
-        0 => Ok(ChargeMessage::Cvm(false)),
-        _ => Err(Refusal::ContentNotAllowed),
-    }
+    Ok(ChargeMessage::Cvm(mark(a)?))
 }
 
 fn cmp(bytes: &[u8]) -> Result<ChargeMessage, Refusal>
@@ -68,10 +76,8 @@ fn crm(a: u8) -> Result<ChargeMessage, Refusal>
     ensures { result ≡ crm_of a }
 {
     match a {
-        0xaa => Ok(ChargeMessage::Crm(true)),
-        0 => Ok(ChargeMessage::Crm(false)),
         0xff => Ok(ChargeMessage::Crm(false)),
-        _ => Err(Refusal::ContentNotAllowed),
+        _ => Ok(ChargeMessage::Crm(mark(a)?)),
     }
 }
 
@@ -88,21 +94,14 @@ fn ccs(e: u8) -> Result<ChargeMessage, Refusal>
 fn cst(c: u8) -> Result<ChargeMessage, Refusal>
     ensures { result ≡ cst_of c }
 {
-    match c {
-        0xaa => Ok(ChargeMessage::Cst(true)),
-        0 => Ok(ChargeMessage::Cst(false)),
-        _ => Err(Refusal::ContentNotAllowed),
-    }
+    Ok(ChargeMessage::Cst(mark(c)?))
 }
 
 fn cem(c: u8) -> Result<ChargeMessage, Refusal>
     ensures { result ≡ cem_of c }
 {
-    match c {
-        0xaa => Ok(ChargeMessage::Cem),
-        0 => Ok(ChargeMessage::Cem),
-        _ => Err(Refusal::ContentNotAllowed),
-    }
+    mark(c)?;
+    Ok(ChargeMessage::Cem)
 }
 
 // The message that the data bytes are; a byte past the end counts as 0.

@@ -2,58 +2,25 @@
 -- nothing.
 use Prim.Native.Nat.{ℕ, zero, suc, ◌-◌, ◌≤◌, ◌<◌}
 use mathlib.Core.Path.{◌≡◌, refl, ◌∙◌, ap}
-use mathlib.Core.Bool.{true, false, cond, ◌&&◌, ◌||◌, or-false}
+use mathlib.Core.Bool.{false, cond}
 use mathlib.Core.List.{List, [], ◌∷◌, ◌++◌}
 use native.Mathlib.Omega.{arith}
-use borrow.Author.Tests.{lt-ltb, le-ltb, le-leb}
+use borrow.Author.Tests.{le-ltb, le-leb}
 use lib.Dec.{ltb, leb}
 use lib.ListN.{length, take, drop}
 use lib.Seq.{take-nil}
-use Rattle.messages.specs.declared.received.Kind.{Kind}
 use Rattle.queries.specs.declared.Query.{Query}
 use Rattle.queries.specs.declared.Queries.{Queries}
-use Rattle.queries.specs.Waiting.{most_waiting, no_query, waiting, queries_of}
-use Rattle.queries.specs.Asking.{same_asked, some_asks}
+use Rattle.queries.specs.Waiting.{most_waiting, waiting, queries_of}
 
--- the tests of the places where four or more are said to wait
+-- four or more are said to wait
 module _ (n : ℕ) where
-  four_0 : ltb 0 (suc (suc (suc (suc n)))) ≡ true
-  four_0 = lt-ltb 0 (suc (suc (suc (suc n)))) (omega arith)
-
-  four_1 : ltb 1 (suc (suc (suc (suc n)))) ≡ true
-  four_1 = lt-ltb 1 (suc (suc (suc (suc n)))) (omega arith)
-
-  four_2 : ltb 2 (suc (suc (suc (suc n)))) ≡ true
-  four_2 = lt-ltb 2 (suc (suc (suc (suc n)))) (omega arith)
-
-  four_3 : ltb 3 (suc (suc (suc (suc n)))) ≡ true
-  four_3 = lt-ltb 3 (suc (suc (suc (suc n)))) (omega arith)
-
   no_more : ltb (suc (suc (suc (suc n)))) 4 ≡ false
   no_more = le-ltb (suc (suc (suc (suc n)))) 4 (omega arith)
 
 module _ (a b c d : Query) where
   abbrev four : List Query
   four = a ∷ b ∷ c ∷ d ∷ []
-
-  -- the places that hold the first n of four
-  pub first_of_is :
-      (n : ℕ)
-      → record {
-        count = cond (ltb n most_waiting) n most_waiting;
-        first = cond (ltb 0 n) a no_query;
-        second = cond (ltb 1 n) b no_query;
-        third = cond (ltb 2 n) c no_query;
-        fourth = cond (ltb 3 n) d no_query;
-      }
-      ≡ queries_of (take n four)
-  unfolding queries_of
-  first_of_is zero = refl
-  first_of_is (suc zero) = refl
-  first_of_is (suc (suc zero)) = refl
-  first_of_is (suc (suc (suc zero))) = refl
-  first_of_is (suc (suc (suc (suc n)))) =
-      simp (four_0 n, four_1 n, four_2 n, four_3 n, no_more n, take-nil {A = Query} n)
 
   -- the first n of four without the oldest
   pub left_is :
@@ -79,21 +46,6 @@ module _ (a b c d : Query) where
   four_wait (suc (suc zero)) = refl
   four_wait (suc (suc (suc zero))) = refl
   four_wait (suc (suc (suc (suc n)))) = rw (take-nil {A = Query} n, le-leb 4 (suc (suc (suc (suc n)))) (omega arith))
-
-  -- the test of each place that waits
-  pub some_asks_lem :
-      (source : ℕ) (kind : Kind) (n : ℕ)
-      → (ltb 0 n && same_asked source kind a)
-      || ((ltb 1 n && same_asked source kind b)
-      || ((ltb 2 n && same_asked source kind c) || (ltb 3 n && same_asked source kind d)))
-      ≡ some_asks source kind (take n four)
-  unfolding some_asks
-  some_asks_lem source kind zero = refl
-  some_asks_lem source kind (suc zero) = refl
-  some_asks_lem source kind (suc (suc zero)) = refl
-  some_asks_lem source kind (suc (suc (suc zero))) = refl
-  some_asks_lem source kind (suc (suc (suc (suc n)))) =
-      simp (four_0 n, four_1 n, four_2 n, four_3 n, take-nil {A = Query} n, or-false)
 
   -- the oldest, where one waits, and the others
   pub oldest_first : (n : ℕ) → 0 < n → take n four ≡ a ∷ drop 1 (take n four)

@@ -1,23 +1,23 @@
 -- What asking and answering come to, an outcome a law: each takes the tests that lead to it. Assumes nothing.
 use Prim.Native.Nat.{ℕ, ◌+◌, ◌*◌, ◌≤◌, ◌<◌}
 use mathlib.Core.Path.{◌≡◌, refl, sym, ◌∙◌, ap}
-use mathlib.Core.Bool.{true, false, cond}
+use mathlib.Core.Bool.{true, false}
 use mathlib.Core.List.{List, [], ◌∷◌, ◌++◌}
 use native.Mathlib.Omega.{arith}
 use borrow.Author.Tests.{le-leb, lt-leb}
 use lib.Dec.{leb}
-use Rattle.std.proofs.Common.{Option, None, Some}
+use Rattle.std.proofs.Common.{None, Some}
 use lib.IntN.{ℤ}
 use lib.ListN.{length, drop}
 use Rattle.frames.specs.declared.Frame.{Frame}
-use Rattle.cells.specs.Tables.{most_cells, tables_fit}
+use Rattle.cells.specs.Tables.{tables_fit}
 use Rattle.cells.proofs.Bounds.{fit}
 use Rattle.messages.specs.declared.received.Kind.{Kind}
 use Rattle.messages.specs.declared.received.Kind.TheVariants.{Voltages, Temperatures}
 use Rattle.queries.specs.declared.Query.{Query}
 use Rattle.queries.specs.declared.Queries.{Queries}
 use Rattle.queries.specs.Waiting.{most_waiting, waiting, queries_of}
-use Rattle.queries.specs.Asking.{Queued, some_asks, ask_number, fresh_query, queued_of}
+use Rattle.queries.specs.Asking.{some_asks, ask_number, fresh_query, queued_of}
 use Rattle.queries.specs.Answering.{per_group, group_frame, table_length, past_end, at_last, next_group, answer_frames}
 use Rattle.queries.specs.Answering.{waiting_after, Answers}
 use Rattle.queries.proofs.Four.{four_wait, oldest_first}
@@ -153,11 +153,6 @@ module _ (q : Queries) (own : ℕ) (v : List ℕ) (t : List ℤ) where
                 e ∙ sym (ap queries_of (more_later own v t q.first w (drop 1 w) (oldest q some) h k));
             frames = sends;
           }
-
--- a group that begins within a table, or whose next one does, has a number that a byte can grow from
-pub group_within : (kind : Kind) (group m n : ℕ) → m ≡ (group + 1) * per_group kind → m < n → n ≤ most_cells → group < 255
-group_within Voltages group m n e h k = omega arith
-group_within Temperatures group m n e h k = omega arith
 
 pub some_wait : (n : ℕ) → (n ≡ 0 → ⊥) → 0 < n
 some_wait n h = omega (arith, h)

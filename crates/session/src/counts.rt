@@ -1,25 +1,12 @@
 // The session after a tick's state change, and its counts moved on. A count is kept small by going back where the
 // paper's tests cannot tell (crate session_states, `counts`), so that no session is too long for it.
 ghost use Rattle.std.specs.Prelude.{◌≡◌};
-ghost use Rattle.session_states.specs.Limits.{silence_limit};
-ghost use Rattle.session_states.specs.Counts.{next_up_to};
 ghost use Rattle.session.specs.Tick.{turned_by, waited_of, closing_of, advance_of};
 
 use crate::Session;
 use session_by_tick::Turn;
 use session_states::states::State;
 use session_states::{counts, limits};
-
-// One silent tick more.
-fn silence_next(n: u8) -> u8
-    ensures { result ≡ next_up_to silence_limit n }
-{
-    if limits::SILENCE <= n {
-        limits::SILENCE
-    } else {
-        n + 1
-    }
-}
 
 impl Session {
     // The state change of a tick.
@@ -39,7 +26,7 @@ impl Session {
     fn wait(&mut self, count: u16, state: State)
         ensures { self.new ≡ waited_of self.old count state }
     {
-        self.silence = silence_next(self.silence);
+        self.silence = counts::next_up_to(limits::SILENCE, self.silence);
         self.count = count;
         self.state = state;
     }

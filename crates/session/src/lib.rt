@@ -26,7 +26,7 @@ pub mod outcome;
 #[derive(Clone, Copy)]
 pub struct Session {
     pub station: u8,
-    pub silence: u8,
+    pub silence: u16,
     pub count: u16,
     pub state: State,
 }

@@ -100,7 +100,7 @@ fn stop(x: Settings, r: Readings, c: Cells, cause: Cause) -> Turn
 
 // Offered to Ready.
 #[tactic(auto, unfolding(crate::specs::Turns::waiting_of))]
-fn waiting(r: Readings, silence: u8, state: State) -> Turn
+fn waiting(r: Readings, silence: u16, state: State) -> Turn
     ensures { result ≡ waiting_of r silence state }
 {
     if limits::SILENCE <= silence {
@@ -138,7 +138,7 @@ fn stops(x: Settings, r: Readings, c: Cells, p: Phase) -> Turn
 }
 
 #[tactic(auto, unfolding(crate::specs::Turns::charging_of))]
-fn charging(x: Settings, r: Readings, c: Cells, silence: u8, p: Phase) -> Turn
+fn charging(x: Settings, r: Readings, c: Cells, silence: u16, p: Phase) -> Turn
     ensures { result ≡ charging_of x r c silence p }
 {
     if limits::SILENCE <= silence {
@@ -185,7 +185,7 @@ fn error(count: u16) -> Turn
 
 // What a tick makes of a state.
 #[tactic(auto, unfolding(crate::specs::Turns::turn_of))]
-pub fn turn_of(x: Settings, r: Readings, c: Cells, state: State, count: u16, silence: u8) -> Turn
+pub fn turn_of(x: Settings, r: Readings, c: Cells, state: State, count: u16, silence: u16) -> Turn
     ensures { result ≡ turn_of x r c state count silence }
 {
     match state {

@@ -2,7 +2,7 @@
 use units::TenthAmps;
 
 // The silent ticks after which the next enters Error.
-pub const SILENCE: u8 = 200;
+pub const SILENCE: u16 = 200;
 
 // The count at which Stopping and Error end.
 pub const CLOSING: u16 = 600;

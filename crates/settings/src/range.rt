@@ -1,6 +1,6 @@
 // Whether every value of the settings is in its range (01, "Settings record", number 2).
 ghost use Rattle.std.specs.Prelude.{◌≡◌};
-ghost use Rattle.settings.specs.Range.{within, good_stations, limits_in_range, in_range};
+ghost use Rattle.settings.specs.Range.{within, lacks, distinct, each_good, good_stations, limits_in_range, in_range};
 
 use crate::{Limits, Settings, Stations};
 
@@ -32,29 +32,46 @@ pub fn within(least: u16, most: u16, n: u16) -> bool
     (least <= n) & (n <= most)
 }
 
+// No address of the list is this one.
+fn lacks(a: u8, l: &[u8]) -> bool
+    ensures { result ≡ lacks a l.now }
+{
+    match l {
+        [] => true,
+        [b, rest @ ..] => (a != *b) & lacks(a, rest),
+    }
+}
+
+fn distinct(l: &[u8]) -> bool
+    ensures { result ≡ distinct l.now }
+{
+    match l {
+        [] => true,
+        [a, rest @ ..] => lacks(*a, rest) & distinct(rest),
+    }
+}
+
+// Each is 0 to 253 and not our own.
+fn each_good(own: u8, l: &[u8]) -> bool
+    ensures { result ≡ each_good own l.now }
+{
+    match l {
+        [] => true,
+        [a, rest @ ..] => ((*a <= LAST_ADDRESS) & (*a != own)) & each_good(own, rest),
+    }
+}
+
 // One to four stations, distinct, each 0 to 253 and none our own.
+#[tactic(auto, unfolding(crate::specs::Range::good_stations, crate::specs::Range::within))]
 fn good_stations(own: u8, s: Stations) -> bool
     ensures { result ≡ good_stations own s }
 {
-    let a = s.first;
-    let b = s.second;
-    let c = s.third;
-    let d = s.fourth;
-    let n = s.count;
-    let pa = (a <= LAST_ADDRESS) & (a != own);
-    let pb = (b <= LAST_ADDRESS) & (b != own);
-    let pc = (c <= LAST_ADDRESS) & (c != own);
-    let pd = (d <= LAST_ADDRESS) & (d != own);
-    match n {
-        1 => pa,
-        2 => (a != b) & (pa & pb),
-        3 => (((a != b) & (a != c)) & (b != c)) & (pa & (pb & pc)),
-        4 => {
-            (((a != b) & ((a != c) & (a != d))) & (((b != c) & (b != d)) & (c != d)))
-                & (pa & (pb & (pc & pd)))
-        }
-        _ => false,
+    if !within(LEAST_STATIONS, MOST_STATIONS, s.count) {
+        return false;
     }
+    let four = [s.first, s.second, s.third, s.fourth];
+    let list = &four[..s.count as usize];
+    distinct(list) & each_good(own, list)
 }
 
 // Each of the maxima.
