@@ -40,24 +40,9 @@ impl Frame {
     pub fn record(self) -> [u8; Self::RECORD]
         ensures { result ≡ frame_record self }
     {
-        let id = self.id;
-        let n = self.length;
-        let d = self.bytes;
-        [
-            (id % 256) as u8,
-            (id / 0x100 % 256) as u8,
-            (id / 0x1_0000 % 256) as u8,
-            (id / 0x100_0000) as u8,
-            n,
-            d[0],
-            d[1],
-            d[2],
-            d[3],
-            d[4],
-            d[5],
-            d[6],
-            d[7],
-        ]
+        let [i, j, k, l] = self.id.to_le_bytes();
+        let [a, b, c, d, e, f, g, h] = self.bytes;
+        [i, j, k, l, self.length, a, b, c, d, e, f, g, h]
     }
 
     // The frame's record laid at a place with room for it; the place past it is returned.

@@ -15,36 +15,15 @@ fn front(x: Settings) -> [u8; 27]
     ensures { (length result ≡ 27)
         × (record_of x ≡ result ++ (station_list x.stations ++ field 7 (version_list x.versions))) }
 {
-    let n = x.stations.count;
     let m = x.limits;
+    let [v0, v1] = m.cell.0.to_le_bytes();
+    let [a0, a1] = m.current.0.to_le_bytes();
+    let [p0, p1] = m.pack.0.to_le_bytes();
+    let [t0, t1] = m.temperature.0.to_le_bytes();
+    let [n0, n1] = x.stations.count.to_le_bytes();
     [
-        1,
-        1,
-        0,
-        x.own,
-        2,
-        2,
-        0,
-        (m.cell.0 % 256) as u8,
-        (m.cell.0 / 256) as u8,
-        3,
-        2,
-        0,
-        (m.current.0 % 256) as u8,
-        (m.current.0 / 256) as u8,
-        4,
-        2,
-        0,
-        (m.pack.0 % 256) as u8,
-        (m.pack.0 / 256) as u8,
-        5,
-        2,
-        0,
-        (m.temperature.0 % 256) as u8,
-        (m.temperature.0 / 256) as u8,
-        6,
-        (n % 256) as u8,
-        (n / 256) as u8,
+        1, 1, 0, x.own, 2, 2, 0, v0, v1, 3, 2, 0, a0, a1, 4, 2, 0, p0, p1, 5, 2, 0, t0, t1, 6, n0,
+        n1,
     ]
 }
 
