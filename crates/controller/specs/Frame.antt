@@ -11,7 +11,7 @@ use Rattle.messages.specs.declared.received.Message.TheVariants as message
 use Rattle.messages.specs.Identifier.{parts_of}
 use Rattle.charge_messages.specs.declared.ChargeMessage.{ChargeMessage}
 use Rattle.charge_messages.specs.Content.{content_of}
-use Rattle.session.specs.Message.{Taken, message_of}
+use Rattle.session.specs.Message.{Told, message_of}
 use Rattle.queries.specs.Asking.{Queued, queued_of}
 use Rattle.refusals.specs.Frame.{message_in, may_speak}
 use Rattle.controller.specs.declared.Controller.{Controller}
@@ -35,7 +35,7 @@ unfoldable pub may_charge : Controller → ℕ → Bool
 may_charge c source = may_speak c.session.state c.session.station c.settings.stations source
 
 -- the session moved on, and nothing else of the controller
-unfoldable pub session_moved : Controller → Taken → Answer
+unfoldable pub session_moved : Controller → Told → Answer
 session_moved c t = record { number = t.number; controller = with_session c t.session }
 
 -- 10: content not allowed; then taken or 11, by the session

@@ -19,7 +19,9 @@ impl Controller {
             return Err(Refusal::NotTheStation);
         }
         let m = charge_messages::read_content(k, bytes)?;
-        self.session.message(self.settings, source, m)
+        let taken = s.message(self.settings, source, m);
+        self.session = taken.session;
+        taken.answer
     }
 
     // A query: 12 and 13.

@@ -16,9 +16,10 @@ impl Controller {
     {
         let x = self.settings;
         let c = figures::summarize(v, t);
-        let charged = self.session.tick(x, r, c);
+        let ticked = self.session.tick(x, r, c);
         let cell = self.queries.answer(x.own, v, t);
-        let bytes = ticking::lay(x, self.beat, r, c, &charged, cell, buf);
+        let bytes = ticking::lay(x, self.beat, r, c, &ticked.frames, cell, buf);
+        self.session = ticked.session;
         self.beat = self.beat.next();
         bytes
     }

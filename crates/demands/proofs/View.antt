@@ -25,7 +25,7 @@ use Rattle.messages.specs.Received.{row_of, least_length, nine, first_with, reco
 use Rattle.settings.specs.declared.Settings.{Settings}
 use Rattle.charge_messages.specs.Content.{content_of}
 use Rattle.session.specs.declared.Session.{Session}
-use Rattle.session.specs.Message.{Taken}
+use Rattle.session.specs.Message.{Told}
 use Rattle.session.specs.Message.{message_of}
 use Rattle.queries.specs.Asking.{queued_of}
 use Rattle.refusals.specs.Frame.{not_can, flags_set, not_for_us, bad_source, may_speak}
@@ -43,11 +43,11 @@ unfolding frame_to
 frame_view c id s = refl
 
 -- ---- a charge message, by settings and session alone: refused by 9 or 10, else taken or refused by 11
-unfoldable pub content_on : Settings → ℕ → Session → Result ChargeMessage Refusal → Taken
+unfoldable pub content_on : Settings → ℕ → Session → Result ChargeMessage Refusal → Told
 content_on x source t (Ok m) = message_of x source t m
 content_on x source t (Err n) = record { number = number_of n; session = t }
 
-unfoldable pub charge_on : Settings → ℕ → Charge → List ℕ → Session → Taken
+unfoldable pub charge_on : Settings → ℕ → Charge → List ℕ → Session → Told
 charge_on x source k s t =
     cond (may_speak t.state t.station x.stations source) (content_on x source t (content_of k s))
     (record { number = 9; session = t })

@@ -91,3 +91,33 @@ pub const EC: Row = Row(0xfa, 7, 8, 0x27);
 pub const VOLTAGES: Row = Row(0x31, 7, 8, 0);
 
 pub const TEMPERATURES: Row = Row(0x81, 7, 8, 0);
+
+// All of them, in the table's order.
+pub const ROWS: [Row; 26] = [
+    CIM,
+    CVM,
+    CMP,
+    CRM,
+    CCS,
+    CST,
+    CEM,
+    ACV,
+    ACT,
+    EIM,
+    EVM,
+    ECP,
+    ERM,
+    ECR,
+    ECS,
+    ESM,
+    EST,
+    EDM,
+    EEM,
+    PS,
+    CVS,
+    CTS,
+    FWS,
+    EC,
+    VOLTAGES,
+    TEMPERATURES,
+];

@@ -11,48 +11,53 @@ use session_states::{counts, limits};
 impl Session {
     // The state change of a tick.
     #[tactic(auto, unfolding(crate::specs::Tick::turned_by))]
-    pub fn turn(&mut self, t: Turn)
-        ensures { self.new ≡ turned_by self.old t }
+    pub fn turned(self, t: Turn) -> Session
+        ensures { result ≡ turned_by self t }
     {
         match t {
-            Turn::On(state) => self.state = state,
-            Turn::Enter(state) => self.begin(state),
-            Turn::Farewell | Turn::End => *self = Session::idle(),
+            Turn::On(state) => Session { state, ..self },
+            Turn::Enter(state) => self.begun(state),
+            Turn::Farewell | Turn::End => Session::idle(),
         }
     }
 
     // A tick of Offered to Charging: silence grows with the count.
     #[tactic(auto, unfolding(crate::specs::Tick::waited_of))]
-    fn wait(&mut self, count: u16, state: State)
-        ensures { self.new ≡ waited_of self.old count state }
+    fn waited(self, count: u16, state: State) -> Session
+        ensures { result ≡ waited_of self count state }
     {
-        self.silence = counts::next_up_to(limits::SILENCE, self.silence);
-        self.count = count;
-        self.state = state;
+        Session {
+            silence: counts::next_up_to(limits::SILENCE, self.silence),
+            count,
+            state,
+            ..self
+        }
     }
 
     // A tick of Stopping or Error.
     #[tactic(auto, unfolding(crate::specs::Tick::closing_of))]
-    fn close(&mut self, state: State)
-        ensures { self.new ≡ closing_of self.old state }
+    fn closing(self) -> Session
+        ensures { result ≡ closing_of self self.state }
     {
-        self.count = counts::next_up_to(limits::CLOSING, self.count);
-        self.state = state;
+        Session {
+            count: counts::next_up_to(limits::CLOSING, self.count),
+            ..self
+        }
     }
 
     // The counts moved on.
     #[tactic(auto, unfolding(crate::specs::Tick::advance_of, crate::specs::Tick::advance_in))]
-    pub fn advance(&mut self)
-        ensures { self.new ≡ advance_of self.old }
+    pub fn advanced(self) -> Session
+        ensures { result ≡ advance_of self }
     {
         let state = self.state;
         let fifth = counts::next_each_five(self.count);
         match state {
-            State::Idle => {}
-            State::Offered | State::Unverified | State::Ready { .. } => self.wait(fifth, state),
-            State::Parameters => self.wait(counts::next_ecp(self.count), state),
-            State::Charging(p) => self.wait(fifth, State::Charging(p.aged())),
-            State::Stopping { .. } | State::Error => self.close(state),
+            State::Idle => self,
+            State::Offered | State::Unverified | State::Ready { .. } => self.waited(fifth, state),
+            State::Parameters => self.waited(counts::next_ecp(self.count), state),
+            State::Charging(p) => self.waited(fifth, State::Charging(p.aged())),
+            State::Stopping { .. } | State::Error => self.closing(),
         }
     }
 }

@@ -5,7 +5,7 @@
 
 ghost use Rattle.std.specs.Prelude.{◌≡◌};
 ghost use Rattle.session.specs.Session.{idle_session, begun, opened};
-ghost use Rattle.session.specs.Message.{taken, message_of};
+ghost use Rattle.session.specs.Message.{told, message_of};
 ghost use Rattle.session.specs.Tick.{tick_of, sent_of};
 
 use arrayvec::ArrayVec;
@@ -31,8 +31,22 @@ pub struct Session {
     pub state: State,
 }
 
+// What a message comes to: whether it is taken, and the next session.
+#[derive(Clone, Copy)]
+pub struct Taken {
+    pub answer: Result<(), Refusal>,
+    pub session: Session,
+}
+
 // The frames of a tick to the station: at most three.
 pub type ChargeFrames = ArrayVec<Frame, 3>;
+
+// What a tick comes to: the next session, and the frames it sends.
+#[derive(Drop)]
+pub struct Ticked {
+    pub session: Session,
+    pub frames: ChargeFrames,
+}
 
 impl Session {
     // No session.
@@ -60,34 +74,40 @@ impl Session {
     }
 
     // A state begins: its count is 0, and so is silence.
-    pub fn begin(&mut self, state: State)
-        ensures { self.new ≡ begun self.old state }
+    pub fn begun(self, state: State) -> Session
+        ensures { result ≡ begun self state }
     {
-        self.silence = 0;
-        self.count = 0;
-        self.state = state;
+        Session {
+            silence: 0,
+            count: 0,
+            state,
+            ..self
+        }
     }
 
     // A charge message of the session's station; in Idle, of a listed station.
-    #[tactic(auto, unfolding(crate::specs::Message::message_of))]
-    pub fn message(&mut self, x: Settings, source: u8, m: ChargeMessage) -> Result<(), Refusal>
-        ensures { taken result self.new ≡ message_of x source self.old m }
+    #[tactic(auto, unfolding(crate::specs::Message::message_of, crate::specs::Message::applied_of))]
+    pub fn message(self, x: Settings, source: u8, m: ChargeMessage) -> Taken
+        ensures { told result ≡ message_of x source self m }
     {
         let o = session_by_message::message::outcome(x, self.state, self.count, m);
-        self.apply(source, o)
+        Taken {
+            answer: o.answer(),
+            session: self.after(source, o),
+        }
     }
 
     // An accepted tick: state changes first, then the frames of the resulting state, then counts.
     #[tactic(auto, unfolding(crate::specs::Tick::tick_of, crate::specs::Tick::sent_of, crate::specs::Tick::turn_in))]
-    pub fn tick(&mut self, x: Settings, r: Readings, c: Cells) -> ChargeFrames
-        ensures next { self.new ≡ tick_of x r c self.old }
-        ensures sent { result.items ≡ sent_of x r c self.old }
+    pub fn tick(self, x: Settings, r: Readings, c: Cells) -> Ticked
+        ensures next { result.session ≡ tick_of x r c self }
+        ensures sent { result.frames.items ≡ sent_of x r c self }
     {
-        let station = self.station;
         let t = session_by_tick::turn_of(x, r, c, self.state, self.count, self.silence);
-        self.turn(t);
-        let sent = due::sent(x, r, c, station, t, *self);
-        self.advance();
-        sent
+        let turned = self.turned(t);
+        Ticked {
+            session: turned.advanced(),
+            frames: due::sent(x, r, c, self.station, t, turned),
+        }
     }
 }

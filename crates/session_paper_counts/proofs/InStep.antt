@@ -7,7 +7,7 @@ use Rattle.cells.specs.declared.Cells.{Cells}
 use Rattle.charge_messages.specs.declared.ChargeMessage.{ChargeMessage}
 use Rattle.session_by_tick.specs.declared.Turn.{Turn}
 use Rattle.session.specs.declared.Session.{Session}
-use Rattle.session.specs.Message.{Taken}
+use Rattle.session.specs.Message.{Told}
 use Rattle.session.specs.Session.{idle_session}
 use Rattle.session.specs.Message.{message_of}
 use Rattle.session.specs.Frames.{frames_of}
@@ -43,4 +43,4 @@ frames_in_step x r c s = sent_after x r c s s.station
 pub message_in_step : (x : Settings) (source : ℕ) (s : Session) (m : ChargeMessage) →
     ((message_of x source s m).number ≡ (message_of x source (folds s) m).number) × (folds (message_of x source s m).session ≡ (message_of x source (folds s) m).session)
 message_in_step x source s m =
-    (ap (λ (t : Taken). t.number) (message_folds x source s m), ap (λ (t : Taken). t.session) (message_folds x source s m))
+    (ap (λ (t : Told). t.number) (message_folds x source s m), ap (λ (t : Told). t.session) (message_folds x source s m))

@@ -23,7 +23,7 @@ use Rattle.session_by_message.specs.Message.{outcome_of, in_idle, in_offered, in
 use Rattle.session_by_message.specs.Offer.{accepted_of, station_maximum}
 use Rattle.session.specs.declared.Session.{Session}
 use Rattle.session.specs.Session.{with_state}
-use Rattle.session.specs.Message.{Taken}
+use Rattle.session.specs.Message.{Told}
 use Rattle.session.specs.Message.{applied_of, session_after, message_of}
 use Rattle.session_paper_counts.specs.Folds.{fold, fold_phase, fold_state, fold_count, folds}
 use Rattle.session_paper_counts.proofs.Fold.{fold_ltb}
@@ -44,7 +44,7 @@ gone_ecp n = fold_ltb first_ecp 6 9 n (omega arith)
 gone_closing : (n : ℕ) → ltb 0 (fold (next_up_to closing_limit) n) ≡ ltb 0 n
 gone_closing n = fold_ltb 0 closing_limit 0 n (omega arith)
 
-abbrev pub fold_taken : Taken → Taken
+abbrev pub fold_taken : Told → Told
 fold_taken t = record { number = t.number; session = folds t.session }
 
 -- an outcome of a session in the state and one of its fold come to the same

@@ -22,5 +22,5 @@ pub returns : goal.returns
 unfolding charge_frames broadcast_frames cell_frames tick_frames tick_next
 returns c =
     accepted_tick _ _ _ _ _ _ _ _ c.requires
-    (sent_eq c.lay-bytes.ensures (rw (c.tick-charged.ensures.sent, c.answer-cell.ensures.frames, c.summarize-c.ensures)))
-    (rw (c.next-self.ensures, c.tick-charged.ensures.next, c.answer-cell.ensures.later, c.summarize-c.ensures))
+    (sent_eq c.lay-bytes.ensures (rw (c.tick-ticked.ensures.sent, c.answer-cell.ensures.frames, c.summarize-c.ensures)))
+    (rw (c.next-self.ensures, c.tick-ticked.ensures.next, c.answer-cell.ensures.later, c.summarize-c.ensures))
