@@ -41,19 +41,10 @@ fn ps(own: u8, heartbeat: bool, readings: Readings, cells: Cells) -> Frame
     ensures { result ≡ ps_of own heartbeat readings cells }
 {
     let status = status_byte(heartbeat, readings.one);
-    let count = sent::count_byte(cells.volts.count());
-    let current = readings.current_bits();
-    let pack = readings.pack.0;
-    let bytes = [
-        status,
-        readings.two,
-        readings.soc,
-        count,
-        (current % 256) as u8,
-        (current / 256) as u8,
-        (pack % 256) as u8,
-        (pack / 256) as u8,
-    ];
+    let count = sent::count_byte(cells.volts.count);
+    let [c0, c1] = readings.current_bits().to_le_bytes();
+    let [p0, p1] = readings.pack.0.to_le_bytes();
+    let bytes = [status, readings.two, readings.soc, count, c0, c1, p0, p1];
     Frame::new(table::PS, 0, own, bytes)
 }
 
@@ -63,19 +54,12 @@ fn cvs(own: u8, cells: Cells) -> Frame
     ensures { result ≡ cvs_of own cells }
 {
     let volts = cells.volts;
-    let average = volts.average().0;
-    let highest = volts.highest().0;
-    let lowest = volts.lowest().0;
-    let bytes = [
-        (average % 256) as u8,
-        (average / 256) as u8,
-        sent::index_byte(volts.highest_index()),
-        (highest % 256) as u8,
-        (highest / 256) as u8,
-        sent::index_byte(volts.lowest_index()),
-        (lowest % 256) as u8,
-        (lowest / 256) as u8,
-    ];
+    let [a0, a1] = volts.average().0.to_le_bytes();
+    let [h0, h1] = volts.highest.value.0.to_le_bytes();
+    let [l0, l1] = volts.lowest.value.0.to_le_bytes();
+    let highest = sent::index_byte(volts.highest.index);
+    let lowest = sent::index_byte(volts.lowest.index);
+    let bytes = [a0, a1, highest, h0, h1, lowest, l0, l1];
     Frame::new(table::CVS, 0, own, bytes)
 }
 
@@ -86,10 +70,10 @@ fn cts(own: u8, cells: Cells) -> Frame
 {
     let heat = cells.heat;
     let bytes = [
-        sent::index_byte(heat.highest_index()),
-        sent::temperature_byte(heat.highest()),
-        sent::index_byte(heat.lowest_index()),
-        sent::temperature_byte(heat.lowest()),
+        sent::index_byte(heat.highest.index),
+        sent::temperature_byte(heat.highest.value),
+        sent::index_byte(heat.lowest.index),
+        sent::temperature_byte(heat.lowest.value),
         sent::temperature_byte(heat.average()),
         0,
         0,

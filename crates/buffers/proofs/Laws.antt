@@ -1,13 +1,12 @@
 -- How laying composes: nothing laid, one after the other, the same bytes by another name, the length that stays.
 -- Assumes nothing.
-use Prim.Native.Nat.{ℕ, suc, ◌+◌, ◌≤◌, ◌<◌}
+use Prim.Native.Nat.{ℕ, suc, ◌+◌, ◌≤◌}
 use native.Mathlib.Nat.{add-zero, add-suc, suc-add, zero-add}
-use native.Mathlib.Numerals.{add-one}
 use native.Mathlib.Omega.{arith}
 use mathlib.Core.Path.{◌≡◌, sym, ◌∙◌, ap}
 use mathlib.Core.List.{List, [], ◌∷◌, ◌++◌}
-use lib.ListN.{length, take, drop, set, get_or, length-append}
-use lib.Seq.{sets, sets-eq, length-sets, take-suc, length-take-le}
+use lib.ListN.{length, drop, set, length-append}
+use lib.Seq.{sets, sets-eq, length-sets}
 use Rattle.buffers.specs.InnerLaid.{Laid, laid_at}
 
 -- element by element, as a loop stores them
@@ -20,16 +19,6 @@ sets_append l i [] ys = ap (λ (k : ℕ). sets l k ys) (sym (add-zero i))
 sets_append l i (x ∷ xs) ys =
     sets_append (set l i x) (suc i) xs ys
     ∙ ap (λ (k : ℕ). sets (sets (set l i x) (suc i) xs) k ys) (suc-add i (length xs) ∙ sym (add-suc i (length xs)))
-
--- a turn of the loop: one byte more
-pub sets_step : (l : List ℕ) (at i : ℕ) (s : List ℕ) → i < length s
-    → set (sets l at (take i s)) (at + i) (get_or s i 0) ≡ sets l at (take (i + 1) s)
-sets_step l at i s h =
-    sym
-    (ap (λ (k : ℕ). sets l at (take k s)) (add-one i)
-    ∙ (ap (λ (t : List ℕ). sets l at t) (take-suc s i 0 h)
-    ∙ (sets_append l at (take i s) (get_or s i 0 ∷ [])
-    ∙ ap (λ (k : ℕ). set (sets l at (take i s)) (at + k) (get_or s i 0)) (length-take-le i s (omega arith)))))
 
 module _ {old new : List ℕ} {at next : ℕ} {vs : List ℕ} (a : Laid old new at next vs) where
   as_sets : new ≡ sets old at vs

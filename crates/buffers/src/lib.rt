@@ -10,7 +10,7 @@ ghost use Rattle.buffers.specs.Words.{word_at};
 pub fn byte_at(s: &[u8], at: usize) -> u8
     ensures { result ≡ get_or s.now at 0 }
 {
-    if at < s.len() { s[at] } else { 0 }
+    s.get(at).copied().unwrap_or(0)
 }
 
 // The word at a place, little endian; a byte past the end counts as 0.
@@ -18,21 +18,16 @@ pub fn word_at(s: &[u8], at: usize) -> u16
     requires { at < 0x1_0000_0000 }
     ensures { result ≡ word_at s.now at }
 {
-    let l = byte_at(s, at);
-    let h = byte_at(s, at + 1);
-    l as u16 + h as u16 * 256
+    u16::from_le_bytes([byte_at(s, at), byte_at(s, at + 1)])
 }
 
 // The bytes `s` stand in `buf` from `at` on, and nothing else of it changes; the place past them is returned.
+#[tactic(auto, unfolding(crate::specs::InnerLaid::laid_at))]
 pub fn lay(s: &[u8], buf: &mut [u8], at: usize) -> usize
     requires { at + length s.now ≤ length buf.old }
     ensures { Laid buf.old buf.new at result s.now }
 {
-    let n = s.len();
-    let mut i = 0;
-    while i < n {
-        buf[at + i] = s[i];
-        i += 1;
-    }
-    at + n
+    let past = at + s.len();
+    buf[at..past].copy_from_slice(s);
+    past
 }

@@ -1,7 +1,7 @@
 -- What the checks 14 and 15 give: the tables' lengths, each cell's range, and the bounds of their summaries. Assumes
 -- nothing.
 use Prim.Native.Nat.{◌%◌, ℕ, suc, ◌*◌, ◌≤◌, ◌<◌}
-use mathlib.Core.Path.{◌≡◌}
+use mathlib.Core.Path.{◌≡◌, refl}
 use mathlib.Core.List.{List, [], ◌∷◌}
 use mathlib.Core.Bool.{true, ◌&&◌}
 use native.Mathlib.Nat.{not-suc-le-zero, mul-suc, mul-zero}
@@ -10,6 +10,7 @@ use borrow.Author.Tests.{leb-true, eqb-true}
 use lib.Dec.{leb, eqb}
 use lib.IntN.{ℤ, pos}
 use lib.ListN.{length, get_or, length-map}
+use Rattle.units.specs.Units.{hundredth_volts, sent_degrees}
 use Rattle.cells.specs.Tables.{most_cells, most_voltage, tables_fit, every, voltage_ok, temperature_ok, cells_in_range}
 use Rattle.cells.specs.Sent.{as_sent, most_sent, sent_temperatures}
 use Rattle.cells.specs.Summaries.{sum_of, highest_of, lowest_of, summary_of, cells_of}
@@ -59,16 +60,17 @@ in_at_most : (most value : ℕ) (xs : List ℕ) → AtMost most xs → In value 
 in_at_most most value xs h i = omega (arith, h i.place i.within, i.has)
 
 pub bounded :
-    (most : ℕ) (xs : List ℕ) → 1 ≤ length xs → length xs ≤ most_cells → AtMost most xs → Bounded most (summary_of xs)
-bounded most [] a b h = absurd (not-suc-le-zero a)
-bounded most (x ∷ xs) a b h =
+    {U : Type 0} (unit : ℕ → U) (number : U → ℕ) → ((n : ℕ) → number (unit n) ≡ n) → (most : ℕ) (xs : List ℕ)
+    → 1 ≤ length xs → length xs ≤ most_cells → AtMost most xs → Bounded number most (summary_of unit xs)
+bounded unit number same most [] a b h = absurd (not-suc-le-zero a)
+bounded unit number same most (x ∷ xs) a b h =
     record {
       some = a;
       count = b;
       sum = sum_at_most most (x ∷ xs) h;
-      highest = in_at_most most (highest_of (x ∷ xs)) (x ∷ xs) h (highest_in x xs);
+      highest = rw (same (highest_of (x ∷ xs))) (in_at_most most (highest_of (x ∷ xs)) (x ∷ xs) h (highest_in x xs));
       highest_index = omega (arith, (highest_first x xs).within);
-      lowest = in_at_most most (lowest_of (x ∷ xs)) (x ∷ xs) h (lowest_in x xs);
+      lowest = rw (same (lowest_of (x ∷ xs))) (in_at_most most (lowest_of (x ∷ xs)) (x ∷ xs) h (lowest_in x xs));
       lowest_index = omega (arith, (lowest_first x xs).within);
     }
 
@@ -87,9 +89,9 @@ cells_bounded v t f r =
     let n = length-map t as_sent in
     let g = fit v t f in
     record {
-      volts = bounded most_voltage v g.some g.most (voltages_at_most v (voltages_good v t r));
+      volts = bounded hundredth_volts (λ v. v.0) (λ n. refl) most_voltage v g.some g.most (voltages_at_most v (voltages_good v t r));
       heat =
-          bounded most_sent (sent_temperatures t) (omega (arith, n, g.same, g.some))
+          bounded sent_degrees (λ t. t.0) (λ n. refl) most_sent (sent_temperatures t) (omega (arith, n, g.same, g.some))
           (omega (arith, n, g.same, g.most))
           (temperatures_at_most t (temperatures_good v t r));
     }

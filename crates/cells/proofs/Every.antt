@@ -1,27 +1,24 @@
 -- A test at every cell of a table: one cell more, and what it says of each cell. Assumes nothing.
-use Prim.Native.Nat.{ℕ, zero, suc, ◌+◌, ◌≤◌, ◌<◌}
-use mathlib.Core.Path.{◌≡◌, refl, sym, ◌∙◌}
+use Prim.Native.Nat.{ℕ, zero, suc, ◌+◌, ◌<◌}
+use mathlib.Core.Path.{◌≡◌, refl, sym, ◌∙◌, ap}
 use mathlib.Core.List.{List, [], ◌∷◌, map}
 use mathlib.Core.Bool.{Bool, true, ◌&&◌, and-true, and_assoc}
 use native.Mathlib.Numerals.{add-one}
 use native.Mathlib.Nat.{le_of_suc-le-suc, not-suc-le-zero}
-use lib.ListN.{length, get_or, drop, drop_of_length-le}
-use lib.Seq.{drop-cons}
+use lib.ListN.{length, get_or, take}
 use Rattle.buffers.proofs.Tests.{and_left, and_right}
 use Rattle.cells.specs.Tables.{every}
 
-module _ {ℓ} {A : Type ℓ} (f : A → Bool) (d : A) (xs : List A) (i : ℕ) (b : Bool) where
-  -- a turn of a walk that has found b up to cell i
-  pub every_again :
-      i < length xs → every f xs ≡ b && every f (drop i xs)
-      → every f xs ≡ b && f (get_or xs i d) && every f (drop (i + 1) xs)
-  unfolding every
-  every_again h e =
-      e ∙ rw (add-one, drop-cons xs i d h) (sym (and_assoc b (f (get_or xs i d)) (every f (drop (suc i) xs))))
-
-  pub every_end : length xs ≤ i → every f xs ≡ b && every f (drop i xs) → b ≡ every f xs
-  unfolding every
-  every_end h e = sym (e ∙ rw (drop_of_length-le xs h) (and-true b))
+-- a turn of a walk: one cell more
+pub every_more : {A : Type 0} (f : A → Bool) (xs : List A) (i : ℕ) (d : A)
+    → i < length xs → every f (take (i + 1) xs) ≡ (every f (take i xs) && f (get_or xs i d))
+unfolding every
+every_more f [] i d h = absurd (not-suc-le-zero h)
+every_more f (x ∷ xs) zero d h = and-true (f x)
+every_more f (x ∷ xs) (suc i) d h =
+    rw add-one
+    (ap (λ b. f x && b) (rw add-one at (every_more f xs i d (le_of_suc-le-suc h)))
+    ∙ sym (and_assoc (f x) (every f (take i xs)) (f (get_or xs i d))))
 
 pub every_at {ℓ} :
     {A : Type ℓ} (f : A → Bool) (d : A) (xs : List A) (i : ℕ) → every f xs ≡ true → i < length xs

@@ -24,8 +24,8 @@ sum_parts (x ∷ xs) ys = omega (arith, sum_parts xs ys)
 
 -- The average is rounded down: that many times the count is at most the sum, and one more is above it.
 pub average_floor :
-    (s : Summary) → 0 < s.count → (s.count * average_of s ≤ s.sum) × (s.sum < s.count * (average_of s + 1))
-average_floor s h = (mul-div-le s.sum s.count, lt-mul-div-succ s.sum h)
+    {U : Type 0} (s : Summary U) → 0 < s.count → (s.count * average_of s ≤ s.sum) × (s.sum < s.count * (average_of s + 1))
+average_floor {U} s h = (mul-div-le s.sum s.count, lt-mul-div-succ s.sum h)
 
 -- a value that a table has: where it stands, from 0
 pub record In (value : ℕ) (xs : List ℕ) : Type 0 where

@@ -4,4 +4,3 @@ pub mod Summaries
 pub mod Figures
 pub mod Groups
 pub mod InnerBounds
-pub mod InnerWalk

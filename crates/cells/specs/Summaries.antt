@@ -6,6 +6,7 @@ use Rattle.cells.specs.declared.Cell.{Cell}
 use Rattle.cells.specs.declared.Summary.{Summary}
 use Rattle.cells.specs.declared.Cells.{Cells}
 use Rattle.cells.specs.Sent.{sent_temperatures}
+use Rattle.units.specs.Units.{hundredth_volts, sent_degrees}
 
 unfoldable pub sum_of : List ℕ → ℕ
 sum_of [] = 0
@@ -27,24 +28,25 @@ unfoldable pub index_from : ℕ → ℕ → List ℕ → ℕ
 index_from k value [] = 0
 index_from k value (x ∷ xs) = cond (eqb x value) k (index_from (suc k) value xs)
 
--- a value with its index; "ties take the lowest index"
-abbrev pub cell_from : ℕ → ℕ → List ℕ → Cell
-cell_from k value xs = record { value = value; index = index_from k value xs }
+-- a value in its unit, with its index; "ties take the lowest index"
+abbrev pub cell_from : {U : Type 0} → (ℕ → U) → ℕ → ℕ → List ℕ → Cell U
+cell_from unit k value xs = record { value = unit value; index = index_from k value xs }
 
--- indexes are "from 1"
-abbrev pub summary_of : List ℕ → Summary
-summary_of xs =
+-- of a table whose cells are so many of a unit each; indexes are "from 1"
+abbrev pub summary_of : {U : Type 0} → (ℕ → U) → List ℕ → Summary U
+summary_of unit xs =
     record {
       count = length xs;
       sum = sum_of xs;
-      highest = cell_from 1 (highest_of xs) xs;
-      lowest = cell_from 1 (lowest_of xs) xs;
+      highest = cell_from unit 1 (highest_of xs) xs;
+      lowest = cell_from unit 1 (lowest_of xs) xs;
     }
 
 -- voltages as they are, temperatures as they are sent
 abbrev pub cells_of : List ℕ → List ℤ → Cells
-cells_of v t = record { volts = record { 0 = summary_of v }; heat = record { 0 = summary_of (sent_temperatures t) } }
+cells_of v t =
+    record { volts = summary_of hundredth_volts v; heat = summary_of sent_degrees (sent_temperatures t) }
 
 -- the average, rounded down
-abbrev pub average_of : Summary → ℕ
+abbrev pub average_of : {U : Type 0} → Summary U → ℕ
 average_of s = s.sum / s.count

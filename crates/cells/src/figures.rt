@@ -1,14 +1,67 @@
-// What is said of the tables (01, "Broadcasts and cell answers"): both as a whole, and each figure with its unit.
-ghost use Rattle.std.specs.Prelude.{◌≡◌, true, ◌*◌, ◌≤◌, ◌<◌};
-ghost use Rattle.cells.specs.Tables.{tables_fit};
-ghost use Rattle.cells.specs.Summaries.{average_of, cells_of};
-ghost use Rattle.cells.specs.Figures.{cell_count, average_voltage, average_temperature};
-ghost use Rattle.cells.specs.Figures.{highest_voltage, highest_voltage_index, lowest_voltage, lowest_voltage_index};
-ghost use Rattle.cells.specs.Figures.{highest_temperature, highest_temperature_index};
-ghost use Rattle.cells.specs.Figures.{lowest_temperature, lowest_temperature_index};
+// What is said of a table (01, "Broadcasts and cell answers"), of the cells as they are sent: a walk for each figure,
+// then a search for the first cell that has the highest, and for the first that has the lowest. No table of what is
+// sent is made.
+ghost use Rattle.std.specs.Prelude.{◌≡◌, true, ◌*◌, ◌≤◌, ◌<◌, length, map};
+ghost use Rattle.cells.specs.Tables.{tables_fit, most_cells};
+ghost use Rattle.cells.specs.Summaries.{sum_of, highest_of, lowest_of, index_from, summary_of, average_of, cells_of};
 
-use crate::{Cells, Summary, Temperatures, Voltages, heat, volts};
-use units::{HundredthVolts, SentDegrees};
+use crate::reading::{Reading, Unit};
+use crate::{Cell, Cells, Summary};
+
+fn sum<R: Reading>(cells: &[R]) -> u32
+    requires { length cells.now ≤ most_cells }
+    ensures { result ≡ sum_of (map R.sent cells.now) }
+{
+    cells.iter().map(|cell| u32::from(cell.sent())).sum()
+}
+
+fn highest<R: Reading>(cells: &[R]) -> u16
+    ensures { result ≡ highest_of (map R.sent cells.now) }
+{
+    cells.iter().fold(0, |high, cell| cell.sent().max(high))
+}
+
+fn lowest<R: Reading>(cells: &[R]) -> u16
+    ensures { result ≡ lowest_of (map R.sent cells.now) }
+{
+    match cells {
+        [] => 0,
+        [first, rest @ ..] => rest
+            .iter()
+            .fold(first.sent(), |low, cell| cell.sent().min(low)),
+    }
+}
+
+// The index of the first cell that has the value, from 1; 0 where none has it.
+fn index_of<R: Reading>(cells: &[R], value: u16) -> u16
+    requires { length cells.now ≤ most_cells }
+    ensures { result ≡ index_from 1 value (map R.sent cells.now) }
+{
+    match cells.iter().position(|cell| cell.sent() == value) {
+        Some(i) => (i + 1) as u16,
+        None => 0,
+    }
+}
+
+fn summary<R: Reading>(cells: &[R]) -> Summary<R::Unit>
+    requires { length cells.now ≤ most_cells }
+    ensures { result ≡ summary_of R.Unit.of (map R.sent cells.now) }
+{
+    let high = highest(cells);
+    let low = lowest(cells);
+    Summary {
+        count: cells.len() as u16,
+        sum: sum(cells),
+        highest: Cell {
+            value: R::Unit::of(high),
+            index: index_of(cells, high),
+        },
+        lowest: Cell {
+            value: R::Unit::of(low),
+            index: index_of(cells, low),
+        },
+    }
+}
 
 // Both tables, of which 14 was not said.
 pub fn summarize(v: &[u16], t: &[i16]) -> Cells
@@ -16,88 +69,17 @@ pub fn summarize(v: &[u16], t: &[i16]) -> Cells
     ensures { result ≡ cells_of v.now t.now }
 {
     Cells {
-        volts: Voltages(volts::summary(v)),
-        heat: Temperatures(heat::summary(t)),
+        volts: summary(v),
+        heat: summary(t),
     }
 }
 
-// The average, rounded down.
-fn average(s: Summary) -> u16
-    requires { (0 < s.count) × (s.sum ≤ 65535 * s.count) }
-    ensures { result ≡ average_of s }
-{
-    (s.sum / s.count as u32) as u16
-}
-
-impl Voltages {
-    // How many cells there are.
-    pub fn count(self) -> u16
-        ensures { result ≡ cell_count self }
+impl<U: Unit> Summary<U> {
+    // The average, rounded down.
+    pub fn average(self) -> U
+        requires { (0 < self.count) × (self.sum ≤ 65535 * self.count) }
+        ensures { result ≡ U.of (average_of self) }
     {
-        self.0.count
-    }
-
-    pub fn highest(self) -> HundredthVolts
-        ensures { result ≡ highest_voltage self }
-    {
-        HundredthVolts(self.0.highest.value)
-    }
-
-    pub fn highest_index(self) -> u16
-        ensures { result ≡ highest_voltage_index self }
-    {
-        self.0.highest.index
-    }
-
-    pub fn lowest(self) -> HundredthVolts
-        ensures { result ≡ lowest_voltage self }
-    {
-        HundredthVolts(self.0.lowest.value)
-    }
-
-    pub fn lowest_index(self) -> u16
-        ensures { result ≡ lowest_voltage_index self }
-    {
-        self.0.lowest.index
-    }
-
-    pub fn average(self) -> HundredthVolts
-        requires { (0 < self.0.count) × (self.0.sum ≤ 65535 * self.0.count) }
-        ensures { result ≡ average_voltage self }
-    {
-        HundredthVolts(average(self.0))
-    }
-}
-
-impl Temperatures {
-    pub fn highest(self) -> SentDegrees
-        ensures { result ≡ highest_temperature self }
-    {
-        SentDegrees(self.0.highest.value)
-    }
-
-    pub fn highest_index(self) -> u16
-        ensures { result ≡ highest_temperature_index self }
-    {
-        self.0.highest.index
-    }
-
-    pub fn lowest(self) -> SentDegrees
-        ensures { result ≡ lowest_temperature self }
-    {
-        SentDegrees(self.0.lowest.value)
-    }
-
-    pub fn lowest_index(self) -> u16
-        ensures { result ≡ lowest_temperature_index self }
-    {
-        self.0.lowest.index
-    }
-
-    pub fn average(self) -> SentDegrees
-        requires { (0 < self.0.count) × (self.0.sum ≤ 65535 * self.0.count) }
-        ensures { result ≡ average_temperature self }
-    {
-        SentDegrees(average(self.0))
+        U::of((self.sum / u32::from(self.count)) as u16)
     }
 }

@@ -14,27 +14,18 @@ pub fn voltage_group(v: &[u16], group: u8) -> [u8; 8]
     ensures { result ≡ voltage_group v.now group }
 {
     let first = group as usize * VOLTAGES;
-    let a = tables::voltage_at(v, first);
-    let b = tables::voltage_at(v, first + 1);
-    let c = tables::voltage_at(v, first + 2);
-    let d = tables::voltage_at(v, first + 3);
-    [
-        (d % 256) as u8,
-        (d / 256) as u8,
-        (c % 256) as u8,
-        (c / 256) as u8,
-        (b % 256) as u8,
-        (b / 256) as u8,
-        (a % 256) as u8,
-        (a / 256) as u8,
-    ]
+    let [a, b] = tables::value_at(v, first + 3).0.to_le_bytes();
+    let [c, d] = tables::value_at(v, first + 2).0.to_le_bytes();
+    let [e, f] = tables::value_at(v, first + 1).0.to_le_bytes();
+    let [g, h] = tables::value_at(v, first).0.to_le_bytes();
+    [a, b, c, d, e, f, g, h]
 }
 
 // The byte that is sent of the temperature at a place, and 0 past the end.
 fn byte_at(t: &[i16], i: usize) -> u8
     ensures { result ≡ byte_at t.now i }
 {
-    sent::temperature_byte(tables::temperature_at(t, i))
+    sent::temperature_byte(tables::value_at(t, i))
 }
 
 pub fn temperature_group(t: &[i16], group: u8) -> [u8; 8]

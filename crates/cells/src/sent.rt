@@ -3,22 +3,13 @@
 ghost use Rattle.std.specs.Prelude.{◌≡◌};
 ghost use Rattle.cells.specs.Sent.{as_sent, temperature_byte, count_byte, index_byte};
 
-use units::{SentDegrees, Signed};
+use units::SentDegrees;
 
 // F + 50. (A temperature below -50 F is outside its range, and then this is how far below.)
 pub fn as_sent(t: i16) -> SentDegrees
     ensures { result.0 ≡ as_sent t }
 {
-    match units::sign_of(t) {
-        Signed::NotBelow(n) => SentDegrees(n + 50),
-        Signed::Below(n) => {
-            if n <= 49 {
-                SentDegrees(49 - n)
-            } else {
-                SentDegrees(n - 49)
-            }
-        }
-    }
+    SentDegrees(t.abs_diff(-50))
 }
 
 pub fn temperature_byte(t: SentDegrees) -> u8

@@ -29,6 +29,7 @@ use Rattle.readings.proofs.WorkedRows as readings
 use Rattle.session_by_message.proofs.Currents as currents
 use Rattle.session_by_message.proofs.WorkedRows as offers
 use Rattle.session_states.proofs.WorkedRows as phases
+use Rattle.units.specs.Units.{hundredth_volts, sent_degrees}
 use Rattle.cells.proofs.WorkedRows as cells
 use Rattle.queries.proofs.WorkedRows as queries
 use Rattle.demands.proofs.FrameKinds.{pf_sent}
@@ -224,9 +225,9 @@ worked_rows =
       holds_59 = phases.fifty_nine_holds;
       drives_60_again = phases.sixty_drives_again;
       holds_59_then = phases.fifty_nine_holds_then;
-      average = cells.average_of_two;
-      equal_highest = cells.equal_highest;
-      equal_lowest = cells.equal_lowest;
+      average = (cells.average_of_two hundredth_volts, cells.average_of_two sent_degrees);
+      equal_highest = λ n x. (cells.equal_highest hundredth_volts n x, cells.equal_highest sent_degrees n x);
+      equal_lowest = λ n x. (cells.equal_lowest hundredth_volts n x, cells.equal_lowest sent_degrees n x);
       group_32 = queries.group_32;
       group_81 = first_temperatures_lem;
       voltages_end = voltages_end;

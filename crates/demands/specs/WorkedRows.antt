@@ -17,6 +17,7 @@ use Rattle.readings.specs.declared.Readings.{Readings}
 use Rattle.readings.specs.Readings.{raw_of}
 use Rattle.cells.specs.declared.Cells.{Cells}
 use Rattle.cells.specs.Figures.{cell_count}
+use Rattle.units.specs.Units.{hundredth_volts, sent_degrees}
 use Rattle.cells.specs.Summaries.{summary_of, average_of}
 use Rattle.session_states.specs.declared.phases.Phase.{Phase}
 use Rattle.session_states.specs.declared.phases.Phase.TheVariants.{Drive, Rest, Hold}
@@ -144,11 +145,17 @@ pub record WorkedRows : Type 0 where
   pub holds_59 : start_phase (tenths 400) (tenths 59) ≡ Hold 0
   pub drives_60_again : phase_after (Rest (tenths 120) 1 rest_limit) false ≡ Continue (Drive (tenths 60) 2 0)
   pub holds_59_then : phase_after (Rest (tenths 119) 1 rest_limit) false ≡ Continue (Hold 0)
-  -- voltages 330, 331 average 330
-  pub average : average_of (summary_of (330 ∷ 331 ∷ [])) ≡ 330
-  -- equal cells give index 1, however many they are
-  pub equal_highest : (n x : ℕ) → (summary_of (replicate (suc n) x)).highest.index ≡ 1
-  pub equal_lowest : (n x : ℕ) → (summary_of (replicate (suc n) x)).lowest.index ≡ 1
+  -- voltages 330, 331 average 330 (and so do temperatures that are sent as these)
+  pub average :
+      (average_of (summary_of hundredth_volts (330 ∷ 331 ∷ [])) ≡ 330)
+      × (average_of (summary_of sent_degrees (330 ∷ 331 ∷ [])) ≡ 330)
+  -- equal cells give index 1, however many they are, in either table
+  pub equal_highest :
+      (n x : ℕ) → ((summary_of hundredth_volts (replicate (suc n) x)).highest.index ≡ 1)
+      × ((summary_of sent_degrees (replicate (suc n) x)).highest.index ≡ 1)
+  pub equal_lowest :
+      (n x : ℕ) → ((summary_of hundredth_volts (replicate (suc n) x)).lowest.index ≡ 1)
+      × ((summary_of sent_degrees (replicate (suc n) x)).lowest.index ≡ 1)
   -- cells 1 to 6, with 331 and 332 last: group PF 32 is 00 00 00 00 4C 01 4B 01
   pub group_32 : (a b c d own source : ℕ) (t : List ℤ)
       → group_frame own (a ∷ b ∷ c ∷ d ∷ 331 ∷ 332 ∷ []) t (voltages_at source 1)

@@ -3,9 +3,9 @@
 #![tactic(auto)]
 
 ghost use Rattle.std.specs.Prelude.{◌≡◌};
-ghost use Rattle.readings.specs.Readings.{readings_in_range, wanted_of, above_of, raw_of, bits_of, current_ok};
+ghost use Rattle.readings.specs.Readings.{readings_in_range, wanted_of, above_of, raw_of, bits_of};
 
-use units::{RawAmps, Signed, TenthAmps, TenthVolts};
+use units::{RawAmps, TenthAmps, TenthVolts};
 
 // Two bytes of bits: those that stand now, and those that have been latched.
 #[derive(Clone, Copy)]
@@ -28,56 +28,17 @@ pub struct Readings {
     pub warnings: Marks,
 }
 
-#[tactic(auto, unfolding(crate::specs::Readings::current_ok))]
-fn current_ok(c: i16) -> bool
-    ensures { result ≡ current_ok c }
-{
-    match units::sign_of(c) {
-        Signed::NotBelow(n) => n <= 4000,
-        Signed::Below(n) => n <= 19999,
-    }
-}
+// The current's range, -2000.0 to 400.0 A.
+const LEAST_CURRENT: i16 = -20000;
 
-// A current as a raw word: 4000 minus it, with its sign. (One above 4000 is outside its range, and then this is how far
-// above.)
-#[tactic(auto, unfolding(crate::specs::Readings::raw_of))]
-fn raw(c: i16) -> u16
-    ensures { result ≡ raw_of c }
-{
-    match units::sign_of(c) {
-        Signed::NotBelow(n) => { if n <= 4000 { 4000 - n } else { n - 4000 } }
-        Signed::Below(n) => 4001 + n,
-    }
-}
-
-// A current above a maximum.
-#[tactic(auto, unfolding(crate::specs::Readings::above_of))]
-fn above(c: i16, maximum: TenthAmps) -> bool
-    ensures { result ≡ above_of c maximum }
-{
-    match units::sign_of(c) {
-        Signed::NotBelow(n) => maximum.under(TenthAmps(n)),
-        Signed::Below(_) => false,
-    }
-}
-
-// The bits of a current, as two's complement.
-#[tactic(auto, unfolding(crate::specs::Readings::bits_of))]
-fn bits(c: i16) -> u16
-    ensures { result ≡ bits_of c }
-{
-    match units::sign_of(c) {
-        Signed::NotBelow(n) => n,
-        Signed::Below(n) => 65535 - n,
-    }
-}
+const MOST_CURRENT: i16 = 4000;
 
 impl Readings {
-    #[tactic(auto, unfolding(crate::specs::Readings::readings_in_range))]
+    #[tactic(auto, unfolding(crate::specs::Readings::readings_in_range, crate::specs::Readings::current_ok))]
     pub fn in_range(self) -> bool
         ensures { result ≡ readings_in_range self }
     {
-        let current = current_ok(self.current);
+        let current = (LEAST_CURRENT..=MOST_CURRENT).contains(&self.current);
         (self.one <= 127) & ((self.soc <= 100) & current)
     }
 
@@ -91,23 +52,28 @@ impl Readings {
         (two & 0x80 == 0x80) & ((two & 0x20 == 0) & (active & 0xfe == 0))
     }
 
+    // The current is above a maximum. Both are taken to 32 bits, where each has room.
+    #[tactic(auto, unfolding(crate::specs::Readings::above_of))]
     pub fn current_above(self, maximum: TenthAmps) -> bool
         ensures { result ≡ above_of self.current maximum }
     {
-        above(self.current, maximum)
+        i32::from(maximum.0) < i32::from(self.current)
     }
 
-    // The current as the word of a frame.
+    // The current as the word of a frame: 4000 minus it, with its sign. (One above 4000 is outside its range, and then
+    // this is how far above.)
+    #[tactic(auto, unfolding(crate::specs::Readings::raw_of))]
     pub fn raw_current(self) -> RawAmps
         ensures { result.0 ≡ raw_of self.current }
     {
-        RawAmps(raw(self.current))
+        RawAmps(self.current.abs_diff(4000))
     }
 
-    // The current's bits, as PS has them.
+    // The current's bits as PS has them, as two's complement.
+    #[tactic(auto, unfolding(crate::specs::Readings::bits_of))]
     pub fn current_bits(self) -> u16
         ensures { result ≡ bits_of self.current }
     {
-        bits(self.current)
+        self.current.cast_unsigned()
     }
 }

@@ -12,11 +12,7 @@ use units::{RawAmps, TenthAmps};
 fn offered(raw: RawAmps) -> TenthAmps
     ensures { result.0 ≡ offered_tenths raw }
 {
-    if raw.0 <= 4000 {
-        TenthAmps(4000 - raw.0)
-    } else {
-        TenthAmps(raw.0 - 4000)
-    }
+    TenthAmps(raw.0.abs_diff(4000))
 }
 
 // min voltage <= maximum pack voltage <= max voltage, 0 <= min current <= max current, min current <= maximum current.
@@ -27,11 +23,10 @@ pub fn accepted(x: Settings, o: Offer) -> bool
 {
     let pack = x.limits.pack;
     let least = offered(o.least);
-    let above = pack.at_least(o.lowest);
-    let below = o.highest.at_least(pack);
-    let in_order = least.at_most(offered(o.most));
-    let within = least.at_most(x.limits.current);
-    above & (below & (in_order & within))
+    let between = (o.lowest <= pack) & (pack <= o.highest);
+    let in_order = least <= offered(o.most);
+    let within = least <= x.limits.current;
+    between & (in_order & within)
 }
 
 // The station's maximum current.

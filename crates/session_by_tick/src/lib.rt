@@ -31,7 +31,7 @@ pub enum Turn {
 fn cell_full(x: Settings, c: Cells) -> bool
     ensures { result ≡ cell_full x c }
 {
-    c.volts.highest().at_least(x.limits.cell)
+    c.volts.highest.value >= x.limits.cell
 }
 
 // The pack voltage is at or above the maximum.
@@ -39,7 +39,7 @@ fn cell_full(x: Settings, c: Cells) -> bool
 fn pack_full(x: Settings, r: Readings) -> bool
     ensures { result ≡ pack_full x r }
 {
-    r.pack.at_least(x.limits.pack)
+    r.pack >= x.limits.pack
 }
 
 // The current is above the maximum.

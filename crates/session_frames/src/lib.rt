@@ -164,7 +164,7 @@ pub fn ecs(x: Settings, station: u8, r: Readings, c: Cells) -> Frame
 {
     let v = r.pack.0;
     let i = r.raw_current().0;
-    let h = c.volts.highest().0;
+    let h = c.volts.highest.value.0;
     let soc = r.soc;
     Frame::new(
         table::ECS,
@@ -188,11 +188,11 @@ pub fn ecs(x: Settings, station: u8, r: Readings, c: Cells) -> Frame
 pub fn esm(x: Settings, station: u8, c: Cells) -> Frame
     ensures { result ≡ esm_of x station c }
 {
-    let a = sent::index_byte(c.volts.highest_index());
-    let b = sent::temperature_byte(c.heat.highest());
-    let d = sent::index_byte(c.heat.highest_index());
-    let e = sent::temperature_byte(c.heat.lowest());
-    let f = sent::index_byte(c.heat.lowest_index());
+    let a = sent::index_byte(c.volts.highest.index);
+    let b = sent::temperature_byte(c.heat.highest.value);
+    let d = sent::index_byte(c.heat.highest.index);
+    let e = sent::temperature_byte(c.heat.lowest.value);
+    let f = sent::index_byte(c.heat.lowest.index);
     Frame::new(table::ESM, station, x.own, [a, b, d, e, f, 0x01, 0, 0])
 }
 
@@ -216,10 +216,10 @@ pub fn edm(x: Settings, station: u8, r: Readings, c: Cells) -> Frame
     ensures { result ≡ edm_of x station r c }
 {
     let soc = r.soc;
-    let a = c.volts.lowest().0;
-    let b = c.volts.highest().0;
-    let d = sent::temperature_byte(c.heat.lowest());
-    let e = sent::temperature_byte(c.heat.highest());
+    let a = c.volts.lowest.value.0;
+    let b = c.volts.highest.value.0;
+    let d = sent::temperature_byte(c.heat.lowest.value);
+    let e = sent::temperature_byte(c.heat.highest.value);
     Frame::new(
         table::EDM,
         station,

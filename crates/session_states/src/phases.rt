@@ -41,8 +41,8 @@ pub type PhaseAfter = ControlFlow<Cause, Phase>;
 pub fn start_phase(maximum: TenthAmps, station: TenthAmps) -> Phase
     ensures { result ≡ start_phase maximum station }
 {
-    let request = maximum.lesser(station);
-    if request.under(limits::LEAST_REQUEST) {
+    let request = maximum.min(station);
+    if request < limits::LEAST_REQUEST {
         Phase::Hold { time: 0 }
     } else {
         Phase::Drive {
@@ -93,7 +93,7 @@ fn after_rest(request: TenthAmps, cycle: u8, cell: bool) -> PhaseAfter
     ensures { result ≡ after_rest request cycle cell }
 {
     let halved = request.halved();
-    if halved.under(limits::LEAST_REQUEST) {
+    if halved < limits::LEAST_REQUEST {
         hold_rules(0, cell)
     } else if limits::DRIVES <= cycle {
         hold_rules(0, cell)

@@ -3,8 +3,16 @@
 use Rattle.std.specs.Prelude.{ℕ, ◌-◌, ◌*◌, ◌/◌, cond, leb}
 use Rattle.units.specs.declared.TenthVolts.{TenthVolts}
 use Rattle.units.specs.declared.HundredthVolts.{HundredthVolts}
+use Rattle.units.specs.declared.SentDegrees.{SentDegrees}
 use Rattle.units.specs.declared.TenthAmps.{TenthAmps}
 use Rattle.units.specs.declared.RawAmps.{RawAmps}
+
+-- so many hundredths of a volt, and a temperature that is sent as so many
+abbrev pub hundredth_volts : ℕ → HundredthVolts
+hundredth_volts n = record { 0 = n }
+
+abbrev pub sent_degrees : ℕ → SentDegrees
+sent_degrees n = record { 0 = n }
 
 -- "the smaller of" two
 abbrev pub lesser_of : ℕ → ℕ → ℕ
