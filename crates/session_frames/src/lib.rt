@@ -110,7 +110,7 @@ const HOLD_CELL: HundredthVolts = HundredthVolts(355);
 fn hold_voltage(x: Settings, c: Cells) -> TenthVolts
     ensures { result ≡ hold_voltage x c }
 {
-    HOLD_CELL.in_series(c.volts.count(), x.limits.pack)
+    HOLD_CELL.in_series(c.volts.count, x.limits.pack)
 }
 
 // 0 A as a raw current.
