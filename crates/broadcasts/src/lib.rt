@@ -3,11 +3,11 @@
 #![tactic(auto)]
 
 ghost use Rattle.std.specs.Prelude.{◌≡◌};
-ghost use Rattle.cells.specs.InnerBounds.{BoundedCells};
 ghost use Rattle.broadcasts.specs.Sendings.{in_order};
 ghost use Rattle.broadcasts.specs.Layouts.{status_byte, ps_of, cvs_of, cts_of, fws_of, ec_of, broadcasts_of};
 
-use cells::{Cells, sent};
+use cells::accepted::Accepted;
+use cells::sent;
 use frames::Frame;
 use messages::table;
 use readings::Readings;
@@ -37,11 +37,11 @@ fn status_byte(heartbeat: bool, one: u8) -> u8
 }
 
 #[tactic(auto, unfolding(crate::specs::Layouts::ps_of))]
-fn ps(own: u8, heartbeat: bool, readings: Readings, cells: Cells) -> Frame
-    ensures { result ≡ ps_of own heartbeat readings cells }
+fn ps(own: u8, heartbeat: bool, readings: Readings, accepted: Accepted) -> Frame
+    ensures { result ≡ ps_of own heartbeat readings accepted.cells }
 {
     let status = status_byte(heartbeat, readings.one);
-    let count = sent::count_byte(cells.volts.count);
+    let count = sent::count_byte(accepted.cells.volts.count);
     let [c0, c1] = readings.current_bits().to_le_bytes();
     let [p0, p1] = readings.pack.0.to_le_bytes();
     let bytes = [status, readings.two, readings.soc, count, c0, c1, p0, p1];
@@ -49,11 +49,10 @@ fn ps(own: u8, heartbeat: bool, readings: Readings, cells: Cells) -> Frame
 }
 
 #[tactic(auto, unfolding(crate::specs::Layouts::cvs_of))]
-fn cvs(own: u8, cells: Cells) -> Frame
-    requires { BoundedCells cells }
-    ensures { result ≡ cvs_of own cells }
+fn cvs(own: u8, accepted: Accepted) -> Frame
+    ensures { result ≡ cvs_of own accepted.cells }
 {
-    let volts = cells.volts;
+    let volts = accepted.cells.volts;
     let [a0, a1] = volts.average().0.to_le_bytes();
     let [h0, h1] = volts.highest.value.0.to_le_bytes();
     let [l0, l1] = volts.lowest.value.0.to_le_bytes();
@@ -64,11 +63,10 @@ fn cvs(own: u8, cells: Cells) -> Frame
 }
 
 #[tactic(auto, unfolding(crate::specs::Layouts::cts_of))]
-fn cts(own: u8, cells: Cells) -> Frame
-    requires { BoundedCells cells }
-    ensures { result ≡ cts_of own cells }
+fn cts(own: u8, accepted: Accepted) -> Frame
+    ensures { result ≡ cts_of own accepted.cells }
 {
-    let heat = cells.heat;
+    let heat = accepted.cells.heat;
     let bytes = [
         sent::index_byte(heat.highest.index),
         sent::temperature_byte(heat.highest.value),
@@ -117,15 +115,14 @@ impl Broadcasts {
         versions: Versions,
         heartbeat: bool,
         readings: Readings,
-        cells: Cells,
+        accepted: Accepted,
     ) -> Broadcasts
-        requires { BoundedCells cells }
-        ensures { result ≡ broadcasts_of own versions heartbeat readings cells }
+        ensures { result ≡ broadcasts_of own versions heartbeat readings accepted.cells }
     {
         Broadcasts {
-            ps: ps(own, heartbeat, readings, cells),
-            cvs: cvs(own, cells),
-            cts: cts(own, cells),
+            ps: ps(own, heartbeat, readings, accepted),
+            cvs: cvs(own, accepted),
+            cts: cts(own, accepted),
             fws: fws(own, readings),
             ec: ec(own, versions),
         }

@@ -3,63 +3,73 @@
 // sent is made.
 ghost use Rattle.std.specs.Prelude.{◌≡◌, true, ◌*◌, ◌≤◌, ◌<◌, length, map};
 ghost use Rattle.cells.specs.Tables.{tables_fit, most_cells};
-ghost use Rattle.cells.specs.Summaries.{sum_of, highest_of, lowest_of, index_from, summary_of, average_of, cells_of};
+ghost use Rattle.cells.specs.Summaries.{sum_of, highest_of, lowest_of, index_from, cell_from, summary_of, average_of, cells_of};
 
 use crate::reading::{Reading, Unit};
 use crate::{Cell, Cells, Summary};
 
-fn sum<R: Reading>(cells: &[R]) -> u32
-    requires { length cells.now ≤ most_cells }
-    ensures { result ≡ sum_of (map R.sent cells.now) }
-{
-    cells.iter().map(|cell| u32::from(cell.sent())).sum()
+// A table of no more cells than a table may hold.
+#[derive(Drop)]
+struct Table<'a, R> {
+    cells: &'a [R],
+    ghost short: { length cells.now ≤ most_cells },
 }
 
-fn highest<R: Reading>(cells: &[R]) -> u16
-    ensures { result ≡ highest_of (map R.sent cells.now) }
-{
-    cells.iter().fold(0, |high, cell| cell.sent().max(high))
-}
+impl<R: Reading> Table<'_, R> {
+    fn sum(&self) -> u32
+        ensures { result ≡ sum_of (map R.sent self.now.cells.now) }
+    {
+        self.cells.iter().map(|cell| u32::from(cell.sent())).sum()
+    }
 
-fn lowest<R: Reading>(cells: &[R]) -> u16
-    ensures { result ≡ lowest_of (map R.sent cells.now) }
-{
-    match cells {
-        [] => 0,
-        [first, rest @ ..] => rest
+    fn highest(&self) -> u16
+        ensures { result ≡ highest_of (map R.sent self.now.cells.now) }
+    {
+        self.cells
             .iter()
-            .fold(first.sent(), |low, cell| cell.sent().min(low)),
+            .fold(0, |high, cell| cell.sent().max(high))
     }
-}
 
-// The index of the first cell that has the value, from 1; 0 where none has it.
-fn index_of<R: Reading>(cells: &[R], value: u16) -> u16
-    requires { length cells.now ≤ most_cells }
-    ensures { result ≡ index_from 1 value (map R.sent cells.now) }
-{
-    match cells.iter().position(|cell| cell.sent() == value) {
-        Some(i) => (i + 1) as u16,
-        None => 0,
+    fn lowest(&self) -> u16
+        ensures { result ≡ lowest_of (map R.sent self.now.cells.now) }
+    {
+        match self.cells {
+            [] => 0,
+            [first, rest @ ..] => rest
+                .iter()
+                .fold(first.sent(), |low, cell| cell.sent().min(low)),
+        }
     }
-}
 
-fn summary<R: Reading>(cells: &[R]) -> Summary<R::Unit>
-    requires { length cells.now ≤ most_cells }
-    ensures { result ≡ summary_of R.Unit.of (map R.sent cells.now) }
-{
-    let high = highest(cells);
-    let low = lowest(cells);
-    Summary {
-        count: cells.len() as u16,
-        sum: sum(cells),
-        highest: Cell {
-            value: R::Unit::of(high),
-            index: index_of(cells, high),
-        },
-        lowest: Cell {
-            value: R::Unit::of(low),
-            index: index_of(cells, low),
-        },
+    // The index of the first cell that has the value, from 1; 0 where none has it.
+    fn index_of(&self, value: u16) -> u16
+        ensures { result ≡ index_from 1 value (map R.sent self.now.cells.now) }
+    {
+        match self.cells.iter().position(|cell| cell.sent() == value) {
+            Some(i) => (i + 1) as u16,
+            None => 0,
+        }
+    }
+
+    // A value in its unit, with its index.
+    fn cell(&self, value: u16) -> Cell<R::Unit>
+        ensures { result ≡ cell_from R.Unit.of 1 value (map R.sent self.now.cells.now) }
+    {
+        Cell {
+            value: R::Unit::of(value),
+            index: self.index_of(value),
+        }
+    }
+
+    fn summary(&self) -> Summary<R::Unit>
+        ensures { result ≡ summary_of R.Unit.of (map R.sent self.now.cells.now) }
+    {
+        Summary {
+            count: self.cells.len() as u16,
+            sum: self.sum(),
+            highest: self.cell(self.highest()),
+            lowest: self.cell(self.lowest()),
+        }
     }
 }
 
@@ -69,8 +79,8 @@ pub fn summarize(v: &[u16], t: &[i16]) -> Cells
     ensures { result ≡ cells_of v.now t.now }
 {
     Cells {
-        volts: summary(v),
-        heat: summary(t),
+        volts: Table { cells: v }.summary(),
+        heat: Table { cells: t }.summary(),
     }
 }
 

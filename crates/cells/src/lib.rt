@@ -6,6 +6,7 @@
 // differ in is said once, in `reading`; each figure has its unit.
 #![tactic(auto)]
 
+pub mod accepted;
 pub mod figures;
 pub mod groups;
 pub mod reading;

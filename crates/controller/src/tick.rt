@@ -4,6 +4,7 @@ ghost use Rattle.refusals.specs.Tick.{tick_number};
 ghost use Rattle.controller.specs.Tick.{ticked, TickIs};
 
 use crate::Controller;
+use cells::accepted::Accepted;
 use cells::figures;
 use numbers::Refusal;
 use readings::Readings;
@@ -18,7 +19,8 @@ impl Controller {
         let c = figures::summarize(v, t);
         let ticked = self.session.tick(x, r, c);
         let cell = self.queries.answer(x.own, v, t);
-        let bytes = ticking::lay(x, self.beat, r, c, &ticked.frames, cell, buf);
+        let accepted = Accepted { cells: c };
+        let bytes = ticking::lay(x, self.beat, r, accepted, &ticked.frames, cell, buf);
         self.session = ticked.session;
         self.beat = self.beat.next();
         bytes

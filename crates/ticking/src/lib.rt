@@ -7,22 +7,21 @@ ghost use Rattle.std.specs.Option.{option_to_list};
 ghost use Rattle.std.specs.Prelude.{◌++◌, ◌+◌, ◌*◌, ◌≤◌, length};
 ghost use Rattle.frames.specs.Frame.{record_size};
 ghost use Rattle.frames.specs.InnerSent.{Sent};
-ghost use Rattle.cells.specs.InnerBounds.{BoundedCells};
 ghost use Rattle.broadcasts.specs.Sendings.{broadcast_at};
 
 use broadcasts::Broadcasts;
 use broadcasts::beat::Beat;
-use cells::Cells;
+use cells::accepted::Accepted;
 use frames::Frame;
 use readings::Readings;
 use session::ChargeFrames;
 use settings::Settings;
 
 // The broadcasts, where they are due.
-fn broadcast(x: Settings, beat: Beat, r: Readings, c: Cells, buf: &mut [u8], at: usize) -> usize
-    requires { (at + 5 * record_size ≤ length buf.old) × BoundedCells c }
+fn broadcast(x: Settings, beat: Beat, r: Readings, c: Accepted, buf: &mut [u8], at: usize) -> usize
+    requires { at + 5 * record_size ≤ length buf.old }
     ensures { Sent 5 buf.old buf.new at result
-        (broadcast_at beat.tick x.own x.versions r c) }
+        (broadcast_at beat.tick x.own x.versions r c.cells) }
 {
     if beat.due() {
         let sending = Broadcasts::new(x.own, x.versions, beat.heartbeat(), r, c);
@@ -37,15 +36,15 @@ pub fn lay(
     x: Settings,
     beat: Beat,
     r: Readings,
-    c: Cells,
+    c: Accepted,
     charged: &ChargeFrames,
     cell: Option<Frame>,
     buf: &mut [u8],
 ) -> usize
-    requires { (9 * record_size ≤ length buf.old) × BoundedCells c }
+    requires { 9 * record_size ≤ length buf.old }
     ensures { Sent 9 buf.old buf.new 0 result
         (charged.now.items
-        ++ (broadcast_at beat.tick x.own x.versions r c ++ option_to_list cell)) }
+        ++ (broadcast_at beat.tick x.own x.versions r c.cells ++ option_to_list cell)) }
 {
     let a = frames::send_all(charged.as_slice(), buf, 0);
     let b = broadcast(x, beat, r, c, buf, a);

@@ -1,4 +1,4 @@
--- Nothing refuses the tick, so that the cells are bounded and the buffer has room; its parts are the tick's.
+-- Nothing refuses the tick, so that the cells are accepted and the buffer has room; its parts are the tick's.
 use Rattle.std.proofs.Common.{◌∙◌}
 use Rattle.frames.proofs.Laws.{sent_eq}
 use Rattle.cells.proofs.Bounds.{cells_bounded}
@@ -10,13 +10,16 @@ use Rattle.controller.proofs.Controller.accepted.Goals as goal
 pub summarize-c-requires : goal.summarize-c-requires
 summarize-c-requires c = (fine _ _ _ _ c.requires).fits
 
+pub invariant_of-accepted : goal.invariant_of-accepted
+invariant_of-accepted c =
+    let f = fine _ _ _ _ c.requires in
+    record { bounded = rw c.summarize-c.ensures (cells_bounded _ _ f.fits (fine_cells f)) }
+
 pub answer-cell-requires : goal.answer-cell-requires
 answer-cell-requires c = (fine _ _ _ _ c.requires).fits
 
 pub lay-bytes-requires : goal.lay-bytes-requires
-lay-bytes-requires c =
-    let f = fine _ _ _ _ c.requires in
-    (f.room_enough, rw c.summarize-c.ensures (cells_bounded _ _ f.fits (fine_cells f)))
+lay-bytes-requires c = (fine _ _ _ _ c.requires).room_enough
 
 pub returns : goal.returns
 unfolding charge_frames broadcast_frames cell_frames tick_frames tick_next
