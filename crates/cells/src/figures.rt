@@ -1,11 +1,12 @@
 // What is said of a table (01, "Broadcasts and cell answers"), of the cells as they are sent: a walk for each figure,
 // then a search for the first cell that has the highest, and for the first that has the lowest. No table of what is
 // sent is made.
-ghost use Rattle.std.specs.Prelude.{◌≡◌, true, ◌*◌, ◌≤◌, ◌<◌, length, map};
-ghost use Rattle.cells.specs.Tables.{tables_fit, most_cells};
+ghost use Rattle.std.specs.Prelude.{◌≡◌, ◌*◌, ◌≤◌, ◌<◌, length, map};
+ghost use Rattle.cells.specs.Tables.{most_cells};
 ghost use Rattle.cells.specs.Summaries.{sum_of, highest_of, lowest_of, index_from, cell_from, summary_of, average_of, cells_of};
 
 use crate::reading::{Reading, Unit};
+use crate::tables::Tables;
 use crate::{Cell, Cells, Summary};
 
 // A table of no more cells than a table may hold.
@@ -73,14 +74,15 @@ impl<R: Reading> Table<'_, R> {
     }
 }
 
-// Both tables, of which 14 was not said.
-pub fn summarize(v: &[u16], t: &[i16]) -> Cells
-    requires { tables_fit v.now t.now ≡ true }
-    ensures { result ≡ cells_of v.now t.now }
-{
-    Cells {
-        volts: Table { cells: v }.summary(),
-        heat: Table { cells: t }.summary(),
+impl Tables<'_> {
+    // Both tables.
+    pub fn summarize(&self) -> Cells
+        ensures { result ≡ cells_of self.now.volts.now self.now.heat.now }
+    {
+        Cells {
+            volts: Table { cells: self.volts }.summary(),
+            heat: Table { cells: self.heat }.summary(),
+        }
     }
 }
 

@@ -1,12 +1,20 @@
 // Whether the two tables may be taken: their lengths (01, number 14), then the range of each cell (number 15); and the
 // cell at a place.
-ghost use Rattle.std.specs.Prelude.{◌≡◌, get_or, map};
+ghost use Rattle.std.specs.Prelude.{◌≡◌, true, get_or, map};
 ghost use Rattle.cells.specs.Tables.{tables_fit, every, cells_in_range};
 
 use crate::reading::{Reading, Unit};
 
 // The most cells that a table may hold.
 pub const MOST: usize = 255;
+
+// The two tables that a tick lends, of which 14 was not said.
+#[derive(Clone, Copy)]
+pub struct Tables<'a> {
+    pub volts: &'a [u16],
+    pub heat: &'a [i16],
+    pub ghost fit: { tables_fit volts.now heat.now ≡ true },
+}
 
 // The tables have one length, from 1 to the most.
 pub fn tables_fit(v: &[u16], t: &[i16]) -> bool

@@ -5,7 +5,7 @@ ghost use Rattle.controller.specs.Tick.{ticked, TickIs};
 
 use crate::Controller;
 use cells::accepted::Accepted;
-use cells::figures;
+use cells::tables::Tables;
 use numbers::Refusal;
 use readings::Readings;
 
@@ -16,9 +16,10 @@ impl Controller {
         ensures { TickIs self.old r v.now t.now buf.old buf.new (ticked (Ok result) self.new) }
     {
         let x = self.settings;
-        let c = figures::summarize(v, t);
+        let tables = Tables { volts: v, heat: t };
+        let c = tables.summarize();
         let ticked = self.session.tick(x, r, c);
-        let cell = self.queries.answer(x.own, v, t);
+        let cell = self.queries.answer(x.own, &tables);
         let accepted = Accepted { cells: c };
         let bytes = ticking::lay(x, self.beat, r, accepted, &ticked.frames, cell, buf);
         self.session = ticked.session;

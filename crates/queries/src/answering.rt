@@ -1,12 +1,13 @@
 // What the oldest query is answered at a tick (01, "Broadcasts and cell answers"): one group of its table, or nothing
 // where its next group begins past the table, which may be shorter than it was a tick ago.
-ghost use Rattle.std.specs.Prelude.{◌≡◌, true, ◌+◌, ◌*◌, ◌≤◌, ◌<◌};
+ghost use Rattle.std.specs.Prelude.{◌≡◌, ◌+◌, ◌*◌, ◌≤◌, ◌<◌};
 ghost use Rattle.messages.specs.Table.{pf_of};
-ghost use Rattle.cells.specs.Tables.{most_cells, tables_fit};
+ghost use Rattle.cells.specs.Tables.{most_cells};
 ghost use Rattle.queries.specs.Answering.{per_group, row_after, group_row, group_frame, Answers};
 
 use crate::{Queries, Query};
 use cells::groups;
+use cells::tables::Tables;
 use frames::Frame;
 use messages::received::Kind;
 use messages::table;
@@ -43,23 +44,36 @@ fn row_of(kind: Kind, group: u8) -> Row
 }
 
 #[tactic(auto, unfolding(crate::specs::Answering::group_frame, crate::specs::Answering::group_bytes))]
-fn group_frame(q: Query, own: u8, v: &[u16], t: &[i16]) -> Frame
+fn group_frame(q: Query, own: u8, tables: &Tables) -> Frame
     requires { q.group * per_group q.kind < most_cells }
-    ensures { result ≡ group_frame own v.now t.now q }
+    ensures { result ≡ group_frame own tables.now.volts.now tables.now.heat.now q }
 {
     let kind = q.kind;
     let row = row_of(kind, q.group);
     match kind {
-        Kind::Voltages => Frame::new(row, q.source, own, groups::voltage_group(v, q.group)),
-        Kind::Temperatures => Frame::new(row, q.source, own, groups::temperature_group(t, q.group)),
+        Kind::Voltages => {
+            Frame::new(
+                row,
+                q.source,
+                own,
+                groups::voltage_group(tables.volts, q.group),
+            )
+        }
+        Kind::Temperatures => {
+            Frame::new(
+                row,
+                q.source,
+                own,
+                groups::temperature_group(tables.heat, q.group),
+            )
+        }
     }
 }
 
 impl Queries {
-    // One tick, with tables of which 14 was not said: the frame, where one is due.
-    pub fn answer(&mut self, own: u8, v: &[u16], t: &[i16]) -> Option<Frame>
-        requires { tables_fit v.now t.now ≡ true }
-        ensures { Answers self.old own v.now t.now self.new result }
+    // One tick: the frame, where one is due.
+    pub fn answer(&mut self, own: u8, tables: &Tables) -> Option<Frame>
+        ensures { Answers self.old own tables.now.volts.now tables.now.heat.now self.new result }
     {
         if self.count == 0 {
             *self = Queries::none();
@@ -67,12 +81,12 @@ impl Queries {
         }
         let oldest = self.first;
         let group = oldest.group as usize;
-        let n = v.len();
+        let n = tables.volts.len();
         if n <= cells_before(oldest.kind, group) {
             *self = self.left();
             return None;
         }
-        let frame = group_frame(oldest, own, v, t);
+        let frame = group_frame(oldest, own, tables);
         *self = if n <= cells_before(oldest.kind, group + 1) {
             self.left()
         } else {

@@ -7,16 +7,13 @@ use Rattle.controller.specs.Tick.{charge_frames, broadcast_frames, cell_frames, 
 use Rattle.controller.proofs.Ticks.{accepted_tick}
 use Rattle.controller.proofs.Controller.accepted.Goals as goal
 
-pub summarize-c-requires : goal.summarize-c-requires
-summarize-c-requires c = (fine _ _ _ _ c.requires).fits
+pub invariant_of-tables : goal.invariant_of-tables
+invariant_of-tables c = record { fit = (fine _ _ _ _ c.requires).fits }
 
 pub invariant_of-accepted : goal.invariant_of-accepted
 invariant_of-accepted c =
     let f = fine _ _ _ _ c.requires in
     record { bounded = rw c.summarize-c.ensures (cells_bounded _ _ f.fits (fine_cells f)) }
-
-pub answer-cell-requires : goal.answer-cell-requires
-answer-cell-requires c = (fine _ _ _ _ c.requires).fits
 
 pub lay-bytes-requires : goal.lay-bytes-requires
 lay-bytes-requires c = (fine _ _ _ _ c.requires).room_enough
