@@ -8,6 +8,7 @@ use cells::accepted::Accepted;
 use cells::tables::Tables;
 use numbers::Refusal;
 use readings::Readings;
+use session_by_tick::Tick;
 
 impl Controller {
     // A tick that no number refuses: the bytes written.
@@ -18,7 +19,11 @@ impl Controller {
         let x = self.settings;
         let tables = Tables { volts: v, heat: t };
         let c = tables.summarize();
-        let ticked = self.session.tick(x, r, c);
+        let ticked = self.session.tick(&Tick {
+            settings: x,
+            readings: r,
+            cells: c,
+        });
         let cell = self.queries.answer(x.own, &tables);
         let accepted = Accepted { cells: c };
         let bytes = ticking::lay(x, self.beat, r, accepted, &ticked.frames, cell, buf);

@@ -9,11 +9,10 @@ ghost use Rattle.session.specs.Message.{told, message_of};
 ghost use Rattle.session.specs.Tick.{tick_of, sent_of};
 
 use arrayvec::ArrayVec;
-use cells::Cells;
 use charge_messages::ChargeMessage;
 use frames::Frame;
 use numbers::Refusal;
-use readings::Readings;
+use session_by_tick::Tick;
 use session_states::states::State;
 use settings::Settings;
 
@@ -99,15 +98,15 @@ impl Session {
 
     // An accepted tick: state changes first, then the frames of the resulting state, then counts.
     #[tactic(auto, unfolding(crate::specs::Tick::tick_of, crate::specs::Tick::sent_of, crate::specs::Tick::turn_in))]
-    pub fn tick(self, x: Settings, r: Readings, c: Cells) -> Ticked
-        ensures next { result.session ≡ tick_of x r c self }
-        ensures sent { result.frames.items ≡ sent_of x r c self }
+    pub fn tick(self, tick: &Tick) -> Ticked
+        ensures next { result.session ≡ tick_of tick.now.settings tick.now.readings tick.now.cells self }
+        ensures sent { result.frames.items ≡ sent_of tick.now.settings tick.now.readings tick.now.cells self }
     {
-        let t = session_by_tick::turn_of(x, r, c, self.state, self.count, self.silence);
+        let t = tick.turn(self.state, self.count, self.silence);
         let turned = self.turned(t);
         Ticked {
             session: turned.advanced(),
-            frames: due::sent(x, r, c, self.station, t, turned),
+            frames: due::sent(tick, self.station, t, turned),
         }
     }
 }
