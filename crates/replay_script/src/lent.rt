@@ -1,6 +1,6 @@
 // What each tick is lent: the readings, and the first so many of two tables and of a buffer. Lines of the script set
 // it.
-ghost use Rattle.std.specs.Prelude.{◌≡◌};
+ghost use Rattle.std.specs.Prelude.{◌≡◌, ◌∷◌, replicate};
 ghost use Rattle.replay_script.specs.Lent.{first_readings, first_lent, first_voltages, first_temperatures, lent_after};
 
 use crate::Asked;
@@ -76,20 +76,25 @@ impl Lent {
     }
 }
 
+// A table of one cell.
+fn one_cell<T: Copy>(first: T, zero: T) -> [T; ENTRIES]
+    ensures { result ≡ first ∷ replicate 511 zero }
+{
+    let mut table = [zero; ENTRIES];
+    table[0] = first;
+    table
+}
+
 // The table of voltages at the start: one cell of 3.30 V.
 pub fn first_voltages() -> Voltages
     ensures { result ≡ first_voltages }
 {
-    let mut v = [0; ENTRIES];
-    v[0] = 330;
-    v
+    one_cell(330, 0)
 }
 
 // The table of temperatures at the start: one cell of 70 F.
 pub fn first_temperatures() -> Temperatures
     ensures { result ≡ first_temperatures }
 {
-    let mut t = [0; ENTRIES];
-    t[0] = 70;
-    t
+    one_cell(70, 0)
 }

@@ -25,21 +25,19 @@ pub fn record(text: &[u8], past: usize, bytes: &mut Bytes) -> Option<Asked>
     ensures later { bytes.new ≡ record_bytes text.now past bytes.old }
 {
     let from = words::past_gaps(text, past);
-    let b = byte_at(text, from);
-    if b == b'\n' {
-        return None;
+    match byte_at(text, from) {
+        b'\n' => None,
+        b'-' => closed(text, after(from), 0),
+        _ => {
+            let (n, at) = hex::read_bytes(text, from, bytes)?;
+            closed(text, at, n)
+        }
     }
-    if b == b'-' {
-        return closed(text, after(from), 0);
-    }
-    let (n, at) = hex::read_bytes(text, from, bytes)?;
-    closed(text, at, n)
 }
 
 // The settings in use, into a buffer of a length.
 pub fn write(text: &[u8], past: usize) -> Option<Asked>
     ensures { result ≡ write_in text.now past }
 {
-    let n = ticks::read_length(text, past)?;
-    Some(Asked::Write(n))
+    ticks::read_length(text, past).map(Asked::Write)
 }

@@ -24,8 +24,7 @@ pub fn ticks(text: &[u8], past: usize) -> Option<Asked>
     if words::is_end(text, past) {
         return Some(Asked::Ticks(1));
     }
-    let n = only_up_to(text, past, MOST_TICKS)?;
-    Some(Asked::Ticks(n))
+    only_up_to(text, past, MOST_TICKS).map(Asked::Ticks)
 }
 
 // The one number of a line as a buffer's length.
@@ -40,8 +39,7 @@ pub fn read_length(text: &[u8], past: usize) -> Option<usize>
 pub fn buffer(text: &[u8], past: usize) -> Option<Asked>
     ensures { result ≡ buffer_in text.now past }
 {
-    let n = read_length(text, past)?;
-    Some(Asked::Buffer(n))
+    read_length(text, past).map(Asked::Buffer)
 }
 
 // Ten numbers and no more.

@@ -20,12 +20,12 @@ hyphen_none : digit_of (code "-") ≡ None
 unfolding digit_of
 hyphen_none = refl
 
-pub returns-then-b-eq10-clause-later : goal.returns-then-b-eq10-clause-later
-returns-then-b-eq10-clause-later c =
+pub returns-in-10-clause-later : goal.returns-in-10-clause-later
+returns-in-10-clause-later c =
     rw (← c.past_gaps-from.ensures)
-    (unread c.args.text.now _ newline _ (sym c.byte_at-b.ensures ∙ c.if-b-eq10.true) newline_none)
+    (unread c.args.text.now _ newline _ (sym c.byte_at.ensures ∙ c.in-10.is) newline_none)
 
-pub returns-then-b-eq45-clause-later : goal.returns-then-b-eq45-clause-later
-returns-then-b-eq45-clause-later c =
+pub returns-in-45-clause-later : goal.returns-in-45-clause-later
+returns-in-45-clause-later c =
     rw (← c.past_gaps-from.ensures)
-    (unread c.args.text.now _ (code "-") _ (sym c.byte_at-b.ensures ∙ c.if-b-eq45.true) hyphen_none)
+    (unread c.args.text.now _ (code "-") _ (sym c.byte_at.ensures ∙ c.in-45.is) hyphen_none)
