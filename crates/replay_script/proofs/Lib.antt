@@ -1,4 +1,4 @@
 pub mod Times
+pub mod Unread
 pub mod Entries
-pub mod Looked
 pub mod WorkedRows

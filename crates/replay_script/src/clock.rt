@@ -16,7 +16,7 @@ pub struct Clock {
 }
 
 // (SECONDS.MICROS), 1 to 12 digits and six, in microseconds.
-#[tactic(auto, unfolding(crate::specs::Clocks::time_in, crate::specs::Clocks::is_time))]
+#[tactic(auto, using(crate::proofs::Times::twelve_fit, crate::proofs::Times::six_fit), unfolding(crate::specs::Clocks::time_in, crate::specs::Clocks::is_time))]
 pub fn read_time(text: &[u8], w: Word) -> Option<u64>
     ensures { result ≡ time_in text.now w }
 {

@@ -16,7 +16,7 @@ const MOST_DIGITS: usize = 8;
 const MOST_DATA: usize = 64;
 
 // An identifier, of 1 to 8 hex digits before the `#`, and the place past that.
-#[tactic(auto, unfolding(crate::specs::Frames::identifier_of))]
+#[tactic(auto, using(crate::proofs::Times::eight_fit), unfolding(crate::specs::Frames::identifier_of))]
 fn read_identifier(text: &[u8], from: usize) -> Option<(u32, usize)>
     ensures { result ≡ identifier_in text.now from }
 {

@@ -19,7 +19,7 @@ fn closed(text: &[u8], at: usize, n: usize) -> Option<Asked>
 }
 
 // The bytes of a settings record, or `-` for none, as the one word from a place on.
-#[tactic(auto, unfolding(crate::specs::Records::record_at, crate::specs::Records::record_of))]
+#[tactic(auto, using(crate::proofs::Unread::unread_newline, crate::proofs::Unread::unread_hyphen), unfolding(crate::specs::Records::record_at, crate::specs::Records::record_of))]
 pub fn record(text: &[u8], past: usize, bytes: &mut Bytes) -> Option<Asked>
     ensures answer { result ≡ record_in text.now past }
     ensures later { bytes.new ≡ record_bytes text.now past bytes.old }

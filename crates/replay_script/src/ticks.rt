@@ -77,6 +77,7 @@ pub fn readings(text: &[u8], past: usize) -> Option<Asked>
 
 // The numbers to the end of the line, at most as many as a table has, laid into it with zeros after them: how many. Of
 // a line that cannot be read nothing is kept.
+#[tactic(auto, using(crate::proofs::Entries::stored_none, crate::proofs::Entries::stored_more, crate::proofs::Entries::stored_bad, crate::proofs::Entries::stored_over, crate::proofs::Entries::stored_done))]
 pub fn entries<T: Number>(
     text: &[u8],
     past: usize,

@@ -1,36 +1,24 @@
--- A word read as a number; what the library's conversions make of one is what the definitions say. Assumes nothing.
+-- What the library's conversions make of a number is what the definitions say. Assumes nothing.
 use Prim.Native.Nat.{ℕ, ◌+◌, ◌^◌, ◌≤◌}
 use mathlib.Core.List.{List}
 use mathlib.Core.Path.{◌≡◌, refl}
 use mathlib.Core.Bool.{Bool, true, false, cond}
 use native.Mathlib.Omega.{arith}
 use Rattle.std.proofs.lemmas.Int.{ints}
-use borrow.Author.Tests.{le-leb, lt-leb, leb-true, leb-false, eq-eqb, ne_eqb}
+use borrow.Author.Tests.{le-leb, lt-leb, leb-true, leb-false}
 use lib.Dec.{leb}
 use lib.IntN.{ℤ, pos, negsuc}
 use mir.Syntax.{w16}
 use Rattle.std.specs.Prelude.{option_map, option_and_then, Option, None, Some, Result, Ok, Err, unsigned_abs, OkIff, FitsSigned}
 use Rattle.std.specs.Int.{FitsUnsignedBits}
 use Rattle.std.specs.Result.{result_ok}
-use Rattle.replay_text.specs.declared.words.Word.{Word}
-use Rattle.replay_text.specs.declared.digits.Digits.{Digits}
-use Rattle.replay_text.specs.Chars.{byte_at}
 use Rattle.replay_text.specs.Words.{next_word, is_end}
-use Rattle.replay_text.specs.Digits.{digits_at}
-use Rattle.replay_text.specs.Numbers.{is_minus, past_sign, signed, number_of, number_in, up_to, of_16_bits, last_of, read_as, only_as, only_in}
-
--- digits that end where the word does
-pub read_of : (text : List ℕ) (w : Word) (d : Digits) (at : ℕ) (minus : Bool) → at ≡ past_sign text w.from
-    → d ≡ digits_at 10 text at → (d.count ≡ 0 → ⊥) → d.at ≡ w.to → is_minus (byte_at text w.from) ≡ minus
-    → Some (signed minus d.value) ≡ number_in text w
-unfolding number_in number_of
-read_of text w d at minus p e n t m =
-    rw (← p, ← e, ne_eqb d.count 0 n, eq-eqb d.at w.to t, m)
+use Rattle.replay_text.specs.Numbers.{number_in, up_to, of_16_bits, last_of, read_as, only_as, only_in}
 
 not_leb : (a b : ℕ) → (a ≤ b → ⊥) → leb a b ≡ false
 not_leb a b h = lt-leb a b (omega (arith, h))
 
-pub ok_up_to : {E : Type 0} (k most : ℕ) → 2 ^ k ≡ most + 1 → (x : ℤ) (r : Result ℕ E)
+ok_up_to : {E : Type 0} (k most : ℕ) → 2 ^ k ≡ most + 1 → (x : ℤ) (r : Result ℕ E)
     → OkIff r (FitsUnsignedBits k x) (unsigned_abs x) → result_ok r ≡ up_to most x
 unfolding up_to
 ok_up_to k most e (pos n) (Ok v) h = rw (le-leb n most (omega (arith, h.0, e)), h.1)
@@ -38,12 +26,23 @@ ok_up_to k most e (pos n) (Err d) h = rw (not_leb n most (λ i. h (omega (arith,
 ok_up_to k most e (negsuc n) (Ok v) h = absurd h.0
 ok_up_to k most e (negsuc n) (Err d) h = refl
 
-pub ok_16_bits : {E : Type 0} (x : ℤ) (r : Result ℤ E) → OkIff r (FitsSigned w16 x) x → result_ok r ≡ of_16_bits x
+-- at each width
+module _ {E : Type 0} (x : ℤ) (r : Result ℕ E) where
+  pub ok_u8 : OkIff r (FitsUnsignedBits 8 x) (unsigned_abs x) → result_ok r ≡ up_to 255 x
+  ok_u8 h = ok_up_to 8 255 refl x r h
+
+  pub ok_u16 : OkIff r (FitsUnsignedBits 16 x) (unsigned_abs x) → result_ok r ≡ up_to 65535 x
+  ok_u16 h = ok_up_to 16 65535 refl x r h
+
+  pub ok_u64 : OkIff r (FitsUnsignedBits 64 x) (unsigned_abs x) → result_ok r ≡ up_to 18446744073709551615 x
+  ok_u64 h = ok_up_to 64 18446744073709551615 refl x r h
+
+pub ok_i16 : {E : Type 0} (x : ℤ) (r : Result ℤ E) → OkIff r (FitsSigned w16 x) x → result_ok r ≡ of_16_bits x
 unfolding of_16_bits
-ok_16_bits (pos n) (Ok v) h = let i : n ≤ 32767 = omega (arith, ints, h.0) in rw (le-leb n 32767 i, h.1)
-ok_16_bits (pos n) (Err d) h = rw (not_leb n 32767 (λ i. h (omega (arith, ints, i))))
-ok_16_bits (negsuc n) (Ok v) h = let i : n ≤ 32767 = omega (arith, ints, h.0) in rw (le-leb n 32767 i, h.1)
-ok_16_bits (negsuc n) (Err d) h = rw (not_leb n 32767 (λ i. h (omega (arith, ints, i))))
+ok_i16 (pos n) (Ok v) h = let i : n ≤ 32767 = omega (arith, ints, h.0) in rw (le-leb n 32767 i, h.1)
+ok_i16 (pos n) (Err d) h = rw (not_leb n 32767 (λ i. h (omega (arith, ints, i))))
+ok_i16 (negsuc n) (Ok v) h = let i : n ≤ 32767 = omega (arith, ints, h.0) in rw (le-leb n 32767 i, h.1)
+ok_i16 (negsuc n) (Err d) h = rw (not_leb n 32767 (λ i. h (omega (arith, ints, i))))
 
 -- a number that is read up to a bound is one that is read up to a larger one and tested
 abbrev pub tested : ℕ → Option ℕ → Option ℕ

@@ -3,3 +3,4 @@ pub mod Values
 pub mod Pairs
 pub mod Held
 pub mod Conversions
+pub mod Spelled

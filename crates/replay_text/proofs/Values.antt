@@ -157,3 +157,7 @@ module _ (base : ℕ) where
   unfolding digits_at
   digits_top b text at =
       capped_top 0 (drop at text) (omega (arith, mul-le-mul_left too_much b))
+
+-- so that digits of ten fit a number of 64 bits with its sign
+pub ten_top : (text : List ℕ) (at : ℕ) (d : Digits) → d ≡ digits_at 10 text at → d.value < 2814749767106560
+ten_top text at d e = rw e (digits_top 10 (omega arith) text at)

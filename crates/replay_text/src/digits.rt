@@ -38,6 +38,7 @@ fn with_digit(value: u64, base: u8, x: u8) -> u64
 }
 
 // The digits of a base from a place on.
+#[tactic(auto, unfolding(crate::specs::Digits::digits_at))]
 pub fn read_digits(text: &[u8], from: usize, base: u8) -> Digits
     ensures { result ≡ digits_at base text.now from }
 {

@@ -21,6 +21,7 @@ fn digit_at(text: &[u8], at: usize) -> Option<u8>
 
 // The bytes in hex from a place on, as far as they go: how many, and the place past their digits; none where half of
 // one is left over.
+#[tactic(auto, using(crate::proofs::Pairs::read_none, crate::proofs::Pairs::digit_small))]
 pub fn read_bytes(text: &[u8], from: usize, out: &mut Bytes) -> Option<(usize, usize)>
     ensures answer { result ≡ hex_in text.now from }
     ensures later { out.new ≡ laid_first (bytes_in text.now from) out.old }

@@ -10,6 +10,7 @@ pub const LONGEST: usize = 4096;
 
 // The place of the newline from a place on. It is never before that one, so that a walk from line to line ends, nor
 // further than the text is long.
+#[tactic(auto, using(crate::proofs::Walks::past_from, crate::proofs::Walks::past_within))]
 pub fn line_end(text: &[u8], from: usize) -> usize
     ensures { (from ≤ result) × (result ≤ from + length text.now) × (result ≡ line_end text.now from) }
 {
@@ -17,6 +18,7 @@ pub fn line_end(text: &[u8], from: usize) -> usize
 }
 
 // The place past the last newline; 0 where there is none.
+#[tactic(auto, using(crate::proofs::Held::last_here, crate::proofs::Held::last_before), unfolding(crate::specs::Lines::past_last))]
 pub fn past_last(text: &[u8]) -> usize
     ensures { result ≡ past_last text.now }
 {
@@ -29,6 +31,7 @@ pub fn past_last(text: &[u8]) -> usize
 }
 
 // The characters from a place up to the n-th, moved to the start: how many.
+#[tactic(auto, using(crate::proofs::Held::moved_part))]
 pub fn moved(text: &mut [u8], from: usize, n: usize) -> usize
     ensures answer { result ≡ length (part text.old from n) }
     ensures later { text.new ≡ laid_first (part text.old from n) text.old }

@@ -17,6 +17,7 @@ pub trait Number: Copy {
 impl Number for u8 {
     ghost of = { up_to 255 };
 
+    #[tactic(auto, using(crate::proofs::Conversions::ok_u8))]
     fn of(x: i64) -> Option<u8> {
         u8::try_from(x).ok()
     }
@@ -25,6 +26,7 @@ impl Number for u8 {
 impl Number for u16 {
     ghost of = { up_to 65535 };
 
+    #[tactic(auto, using(crate::proofs::Conversions::ok_u16))]
     fn of(x: i64) -> Option<u16> {
         u16::try_from(x).ok()
     }
@@ -33,6 +35,7 @@ impl Number for u16 {
 impl Number for u64 {
     ghost of = { up_to 18446744073709551615 };
 
+    #[tactic(auto, using(crate::proofs::Conversions::ok_u64))]
     fn of(x: i64) -> Option<u64> {
         u64::try_from(x).ok()
     }
@@ -41,6 +44,7 @@ impl Number for u64 {
 impl Number for i16 {
     ghost of = { of_16_bits };
 
+    #[tactic(auto, using(crate::proofs::Conversions::ok_i16))]
     fn of(x: i64) -> Option<i16> {
         i16::try_from(x).ok()
     }
@@ -58,7 +62,7 @@ fn past_sign(text: &[u8], from: usize) -> usize
 }
 
 // The word as a decimal number with a sign or none.
-#[tactic(auto, unfolding(crate::specs::Numbers::number_in, crate::specs::Numbers::number_of))]
+#[tactic(auto, using(crate::proofs::Values::ten_top), unfolding(crate::specs::Numbers::number_in, crate::specs::Numbers::number_of))]
 fn read_number(text: &[u8], w: Word) -> Option<i64>
     ensures { result ≡ number_in text.now w }
 {
@@ -98,6 +102,7 @@ pub fn only_number<T: Number>(text: &[u8], from: usize) -> Option<T>
 }
 
 // The one number from a place to the end of the line, from 0 up to so much.
+#[tactic(auto, using(crate::proofs::Conversions::only_tested))]
 pub fn only_up_to(text: &[u8], from: usize, most: u64) -> Option<u64>
     ensures { result ≡ only_in text.now from most }
 {

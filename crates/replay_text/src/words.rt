@@ -62,6 +62,7 @@ pub fn is_end(text: &[u8], from: usize) -> bool
 }
 
 // Whether the word that begins at a place is this one.
+#[tactic(auto, using(crate::proofs::Spelled::word_more, crate::proofs::Spelled::word_other, crate::proofs::Spelled::word_all))]
 pub fn is_word(text: &[u8], from: usize, s: &[u8]) -> bool
     ensures { result ≡ is_word text.now from s.now }
 {

@@ -1,14 +1,10 @@
-use Rattle.std.proofs.Common.{◌≡◌, ◌+◌, [], refl, sym, ◌∙◌, arith, add-zero, true, false, slice_index_or}
+use Rattle.std.proofs.Common.{◌≡◌, ◌+◌, [], sym, ◌∙◌, arith, true, false, slice_index_or}
 use borrow.Author.Tests.{lt-ltb, le-ltb}
-use Rattle.replay_text.specs.Digits.{is_digit, digits_at, digits_from}
+use Rattle.replay_text.specs.Digits.{is_digit, digits_from}
 use Rattle.replay_text.proofs.Walks.{rest_same, rest_within, rest_over, leading_none, leading_past}
 use Rattle.replay_text.proofs.Values.{digits_more, digits_end}
 use Rattle.replay_text.proofs.digits.read_digits.Goals as goal
 use Rattle.replay_text.proofs.digits.read_digits.Goals.{else-loop-b-test, then-loop-b-test+in_default-2, then-loop-b-test+in_default}
-
-pub loop-b-init : goal.loop-b-init
-unfolding digits_at
-loop-b-init c = record { passed = refl; same = rw add-zero refl }
 
 pub loop-b-preserved : goal.loop-b-preserved
 loop-b-preserved c =

@@ -1,26 +1,11 @@
 use Rattle.std.proofs.Common.{◌≡◌, ◌+◌, ◌-◌, ◌*◌, sym, ◌∙◌, arith}
 use Rattle.replay_text.specs.Chars.{byte_at}
-use Rattle.replay_text.proofs.Pairs.{read_none, read_more, read_all, read_half, none_left, half_left, digit_small, digit_within}
+use Rattle.replay_text.proofs.Pairs.{read_more, read_all, read_half, none_left, half_left, digit_within}
 use Rattle.replay_text.proofs.hex.read_bytes.Goals as goal
-
-pub loop-n-init : goal.loop-n-init
-loop-n-init c = read_none _ _ _
 
 pub overflow_add-at : goal.overflow_add-at
 overflow_add-at c =
     let w = digit_within c.args.text.now c.loop-n.at c.in-Some.high (sym c.digit_at.ensures ∙ c.in-Some.is) in
-    omega arith
-
-pub overflow_mul-out : goal.overflow_mul-out
-overflow_mul-out c =
-    let a = digit_small _ c.in-Some.high (sym c.digit_at.ensures ∙ c.in-Some.is) in
-    let b = digit_small _ c.in_ok-low.low (sym c.digit_at-in-loop-n.ensures ∙ c.in_ok-low.was) in
-    omega arith
-
-pub overflow_add-out : goal.overflow_add-out
-overflow_add-out c =
-    let a = digit_small _ c.in-Some.high (sym c.digit_at.ensures ∙ c.in-Some.is) in
-    let b = digit_small _ c.in_ok-low.low (sym c.digit_at-in-loop-n.ensures ∙ c.in_ok-low.was) in
     omega arith
 
 pub overflow_add-at-in-loop-n : goal.overflow_add-at-in-loop-n
