@@ -1,20 +1,14 @@
 -- The entry points called with the first so many of what is lent: the promise of each (`ReadIs`, `FrameIs`, `TickIs` of
 -- `controller`, `Wrote` of `settings`) holds of these, and the rest of a buffer is as it was.
-use Rattle.std.specs.Prelude.{ℕ, ◌*◌, ◌≡◌, Bool, cond, List, ◌++◌, ltb, ℤ, length, take, drop}
+use Rattle.std.specs.Prelude.{ℕ, ◌*◌, ◌≡◌, Bool, cond, List, ◌++◌, ℤ, length, take, drop}
 use Rattle.frames.specs.declared.Frame.{Frame}
 use Rattle.frames.specs.Frame.{record_size, records_of}
 use Rattle.settings.specs.declared.Settings.{Settings}
-use Rattle.settings.specs.declared.Written.{Written}
-use Rattle.settings.specs.Write.{buffer_after, Wrote}
+use Rattle.settings.specs.Write.{Written, buffer_after, Wrote}
 use Rattle.refusals.specs.Tick.{tick_number}
 use Rattle.controller.specs.declared.Controller.{Controller}
-use Rattle.controller.specs.declared.Ticked.{Ticked}
-use Rattle.controller.specs.Tick.{tick_frames, tick_next, accepted, TickIs}
+use Rattle.controller.specs.Tick.{Ticked, tick_frames, tick_next, accepted, TickIs}
 use Rattle.replay_script.specs.declared.lent.Lent.{Lent}
-
--- the smaller of two numbers
-abbrev pub least_of : ℕ → ℕ → ℕ
-least_of a b = cond (ltb a b) a b
 
 -- a tick that is lent the first so many voltages, temperatures and bytes
 pub record TickLent (c : Controller) (l : Lent) (v : List ℕ) (t : List ℤ) (old new : List ℕ) (k : Ticked) : Type 0

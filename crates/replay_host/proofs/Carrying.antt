@@ -1,79 +1,63 @@
 -- What lines come to: one by what it asks for, several one after the other. Assumes nothing.
-use Prim.Native.Nat.{ℕ, zero, suc, ◌+◌, ◌≤◌, ◌<◌}
-use mathlib.Core.Path.{◌≡◌, refl, ◌∙◌, ap}
+use Prim.Native.Nat.{ℕ, zero, suc, ◌+◌, ◌≤◌, ◌<◌, min}
+use mathlib.Core.Path.{◌≡◌, refl, sym, ◌∙◌, ap}
 use mathlib.Core.Bool.{true, false, ◌&&◌}
-use mathlib.Core.List.{List, [], ◌∷◌}
+use mathlib.Core.List.{List, []}
 use native.Mathlib.Omega.{arith}
 use borrow.Author.Tests.{lt-ltb}
-use types.Run.{OneOf, miss}
-use denote.Enum.Declared.{tag_of}
 use lib.Dec.{ltb}
 use lib.IntN.{ℤ}
 use Rattle.replay_print.proofs.Laws.{prints_then, prints_eq, laid_append}
-use Rattle.replay_print.specs.Out.{Output, out_of, laid_of}
-use Rattle.replay_script.specs.contracts.Asked.{the_type}
+use Rattle.replay_print.specs.Out.{Output, laid_of}
 use Rattle.replay_script.specs.Clocks.{due_of}
 use Rattle.replay_script.specs.Lent.{lent_after}
 use Rattle.replay_script.specs.Lines.{asked_in, bytes_after, volts_after, temps_after}
 use Rattle.replay_script.specs.declared.Asked.TheVariants as asks
 use Rattle.replay_script.specs.declared.Asked.{Asked}
 use Rattle.replay_script.specs.declared.clock.Clock.{Clock}
-use Rattle.std.specs.Prelude.{Option, None as nothing}
 use Rattle.replay_script.specs.declared.lent.Lent.{Lent}
 use Rattle.replay_text.specs.Lines.{line_end}
-use Rattle.replay_host.specs.Host.{Keeps, Outcome, keeps_of, Comes, only, absent_for, absent_done, unreadable_done}
-use Rattle.replay_host.specs.Lines.{World, Carried, world_of, and_then, logged_done, logged_buffer, logged_clock}
+use Rattle.replay_host.specs.Host.{Keeps, Outcome, keeps_of, Comes, absent_for, absent_done, unreadable_done}
+use Rattle.replay_host.specs.Lines.{World, Carried, world_of, having, Makes, and_then, logged_clock}
 use Rattle.replay_host.specs.Lines.{calls_done, calls_buffer, clock_after, carried_out, line_of, line_read, line_done, lines_up_to}
 use Rattle.replay_host.specs.Lines.{lines_done, CarriesOut}
 use Rattle.replay_calls.specs.Counts.{next_number}
-use Rattle.replay_host.specs.declared.held.Held.TheVariants.{None, Of}
-use Rattle.replay_host.specs.declared.held.Held.{Held}
-use Rattle.replay_host.specs.declared.held.Kept.{Kept}
+use Rattle.replay_host.specs.Ticks.{lending}
+use Rattle.replay_host.specs.declared.held.Host.{Host}
+use Rattle.replay_host.specs.declared.lines.Run.{Run}
+use Rattle.replay_host.specs.declared.ticks.Loan.{Loan}
+use Rattle.std.proofs.Common.{Option, Some, None}
+use Rattle.std.proofs.lemmas.Bool.Decides.{nat_tests}
+use Rattle.controller.specs.declared.Controller.{Controller}
 
--- one call, then another
-pub comes_then : {old mid new : List ℕ} {at : ℕ} {m r : Kept} {a : Outcome} (f : Keeps → Outcome)
-    → Comes old at mid m a → Comes mid m.out new r (f (keeps_of m)) → Comes old at new r (and_then a f)
-comes_then f p q =
-    record {
-      kept = q.kept ∙ ap (λ (x : Keeps). (f x).kept) p.kept;
-      prints = prints_then p.prints (prints_eq q.prints (ap (λ (x : Keeps). (f x).text) p.kept));
-    }
+module _ {W : Type 0} where
+  -- one call, then another
+  pub comes_then : {old mid new : Host W} {a : Outcome} (f : Keeps → Outcome)
+      → Comes old mid a → Comes mid new (f (keeps_of mid)) → Comes old new (and_then a f)
+  comes_then f p q =
+      record {
+        kept = q.kept ∙ ap (λ (x : Keeps). (f x).kept) p.kept;
+        prints = prints_then p.prints (prints_eq q.prints (ap (λ (x : Keeps). (f x).text) p.kept));
+      }
+
+  -- a run with another host, that is lent another buffer
+  pub lends : (r : Run W) (h : Host W) {l : Loan} {b : List ℕ} → l ≡ lending r.loan b
+      → ◌≡◌ {A = Run W} (record { host = h; loan = l; clock = r.clock; number = r.number; bytes = r.bytes }) (having r h b)
+  lends r h e = rw e
+
+  -- a line's calls, by what it asks for
+  pub makes_by : {old new : Run W} {asked a : Asked} → asked ≡ a → Makes old new a → Makes old new asked
+  makes_by e m = rw e m
 
 -- that there is no controller changes nothing
-kept_for : (h : Held) (x : Keeps) → (absent_for h x).kept ≡ x
+kept_for : (h : Option Controller) (x : Keeps) → (absent_for h x).kept ≡ x
 unfolding absent_for
 kept_for None x = refl
-kept_for (Of c) x = refl
+kept_for (Some c) x = refl
 
 pub absent_keeps : (x : Keeps) → (absent_done x).kept ≡ x
 unfolding absent_done
 absent_keeps x = kept_for x.held x
-
-module _ {old new : List ℕ} {at : ℕ} {r : Kept} {later : List ℕ} (w : World) where
-  -- a frame of a log, by what is due
-  pub logged_by : (d e : Option (ℕ × Clock)) (id n : ℕ) → d ≡ e → Comes old at new r (logged_done e id n w) × (later ≡ logged_buffer e w)
-      → Comes old at new r (logged_done d id n w) × (later ≡ logged_buffer d w)
-  logged_by d e id n h p = rw h p
-
-  -- a line, by what it asks for
-  pub calls_by : (asked a : Asked) → asked ≡ a → Comes old at new r (calls_done a w) × (later ≡ calls_buffer a w)
-      → Comes old at new r (calls_done asked w) × (later ≡ calls_buffer asked w)
-  calls_by asked a h p = rw h p
-
--- most lines ask for no call
-pub rest_calls : (asked : Asked) (w : World) → OneOf (0 ∷ 2 ∷ 3 ∷ 4 ∷ 5 ∷ []) (tag_of the_type asked)
-    → (only [] w.keeps ≡ calls_done asked w) × (w.buffer ≡ calls_buffer asked w)
-unfolding calls_done calls_buffer
-rest_calls asks.Nothing w h = (refl, refl)
-rest_calls (asks.Settings n) w h = absurd (miss (0 ∷ 2 ∷ 3 ∷ 4 ∷ 5 ∷ []) 1 tt h)
-rest_calls (asks.Readings x) w h = (refl, refl)
-rest_calls (asks.Voltages n) w h = (refl, refl)
-rest_calls (asks.Temperatures n) w h = (refl, refl)
-rest_calls (asks.Buffer n) w h = (refl, refl)
-rest_calls (asks.Ticks n) w h = absurd (miss (0 ∷ 2 ∷ 3 ∷ 4 ∷ 5 ∷ []) 6 tt h)
-rest_calls (asks.Frame id n) w h = absurd (miss (0 ∷ 2 ∷ 3 ∷ 4 ∷ 5 ∷ []) 7 tt h)
-rest_calls (asks.Logged now id n) w h = absurd (miss (0 ∷ 2 ∷ 3 ∷ 4 ∷ 5 ∷ []) 8 tt h)
-rest_calls (asks.Write n) w h = absurd (miss (0 ∷ 2 ∷ 3 ∷ 4 ∷ 5 ∷ []) 9 tt h)
 
 -- a log's clock, by what is due
 pub clock_by : (asked : Asked) (c : Clock) (now id n : ℕ) (d : Option (ℕ × Clock)) → asked ≡ asks.Logged now id n → due_of c now ≡ d
@@ -81,40 +65,42 @@ pub clock_by : (asked : Asked) (c : Clock) (now id n : ℕ) (d : Option (ℕ × 
 unfolding clock_after
 clock_by asked c now id n d e f = rw (e, f)
 
--- no other line moves it
-pub rest_clock : (asked : Asked) (c : Clock)
-    → OneOf (0 ∷ 1 ∷ 2 ∷ 3 ∷ 4 ∷ 5 ∷ 6 ∷ 7 ∷ 9 ∷ []) (tag_of the_type asked) → c ≡ clock_after asked c
-unfolding clock_after
-rest_clock asks.Nothing c h = refl
-rest_clock (asks.Settings n) c h = refl
-rest_clock (asks.Readings x) c h = refl
-rest_clock (asks.Voltages n) c h = refl
-rest_clock (asks.Temperatures n) c h = refl
-rest_clock (asks.Buffer n) c h = refl
-rest_clock (asks.Ticks n) c h = refl
-rest_clock (asks.Frame id n) c h = refl
-rest_clock (asks.Logged now id n) c h = absurd (miss (0 ∷ 1 ∷ 2 ∷ 3 ∷ 4 ∷ 5 ∷ 6 ∷ 7 ∷ 9 ∷ []) 8 tt h)
-rest_clock (asks.Write n) c h = refl
-
 -- a line carried out, from its parts
-pub carries : {old new : List ℕ} {at : ℕ} (asked : Asked) (w : World) (k : Kept) (l : Lent) (c : Clock) (later : List ℕ)
-    → Comes old at new k (calls_done asked w) × (later ≡ calls_buffer asked w) → l ≡ lent_after w.lent asked
-    → c ≡ clock_after asked w.clock
-    → CarriesOut old at new k.out
-    (world_of (record { kept = k; lent = l; clock = c; number = w.number }) w.bytes w.volts w.temps later)
-    (carried_out asked w)
+pub carries : {W : Type 0} (asked : Asked) (old mid : Run W) (h : Host W) (b : List ℕ) {l : Lent} {c : Clock}
+    → mid ≡ having old h b → Comes old.host h (calls_done asked (world_of old)) → b ≡ calls_buffer asked (world_of old)
+    → l ≡ lent_after mid.loan.lent asked → c ≡ clock_after asked mid.clock
+    → CarriesOut {W = W} old
+    (record {
+      host = mid.host;
+      loan = record { lent = l; volts = mid.loan.volts; temps = mid.loan.temps; buffer = mid.loan.buffer };
+      clock = c;
+      number = mid.number;
+      bytes = mid.bytes;
+    })
+    (carried_out asked (world_of old))
 unfolding carried_out
-carries asked w k l c later p el ec =
-    record { world = rw (p.0.kept, p.1, el, ec); prints = p.0.prints }
+carries {W} asked old mid h b {l} {c} e p eb el ec = rw e (parts (rw e at el) (rw e at ec))
+  where
+    parts : l ≡ lent_after old.loan.lent asked → c ≡ clock_after asked old.clock
+        → CarriesOut {W = W} old
+        (record {
+          host = h;
+          loan = record { lent = l; volts = old.loan.volts; temps = old.loan.temps; buffer = b };
+          clock = c;
+          number = old.number;
+          bytes = old.bytes;
+        })
+        (carried_out asked (world_of old))
+    parts fl fc = record { world = rw (p.kept, eb, fl, fc); prints = p.prints }
 
 -- a line that cannot be read
-pub unreadable_by : {old new : List ℕ} {at : ℕ} (asked : Option Asked) (w : World) (k : Kept) → asked ≡ nothing
-    → Comes old at new k (unreadable_done w.number w.keeps)
-    → CarriesOut old at new k.out
-    (world_of (record { kept = k; lent = w.lent; clock = w.clock; number = w.number }) w.bytes w.volts w.temps w.buffer)
-    (line_of asked w)
+pub unreadable_by : {W : Type 0} {asked : Option Asked} (r : Run W) {h : Host W} → asked ≡ None
+    → Comes r.host h (unreadable_done r.number (keeps_of r.host))
+    → CarriesOut {W = W} r
+    (record { host = h; loan = r.loan; clock = r.clock; number = r.number; bytes = r.bytes })
+    (line_of asked (world_of r))
 unfolding line_of unreadable_done
-unreadable_by asked w k e p = rw e (record { world = rw p.kept; prints = p.prints })
+unreadable_by r e p = rw e (record { world = rw p.kept; prints = p.prints })
 
 -- a line that was read
 pub line_by : (text : List ℕ) (at end number : ℕ) (w : World) (asked : Option Asked) (bytes volts : List ℕ) (temps : List ℤ)
@@ -138,9 +124,15 @@ unfolding line_done line_read
 line_by text at end number w asked bytes volts temps e n r =
     rw (r.0, r.1.0, r.1.1.0, r.1.1.1, e, n)
 
-pub carries_eq : {old new : List ℕ} {at next : ℕ} {w : World} {x y : Carried} → CarriesOut old at new next w x → x ≡ y
-    → CarriesOut old at new next w y
+pub carries_eq : {W : Type 0} {old new : Run W} {x y : Carried} → CarriesOut old new x → x ≡ y → CarriesOut old new y
 carries_eq a e = rw (← e) a
+
+-- the place is before the last, and within the text
+pub both : (at last : ℕ) → at < min last 65536 → (at < 65536) × (at < last)
+both at last h = (omega arith, omega arith)
+
+pub either : (at last : ℕ) → min last 65536 ≤ at → (ltb at 65536 && ltb at last) ≡ false
+either at last h = grind (arith, nat_tests)
 
 module _ (text : List ℕ) (last : ℕ) where
   -- the lines that are left come to what all of them come to
@@ -172,18 +164,18 @@ module _ (text : List ℕ) (last : ℕ) where
           world = rw (en, ey) (rw t at ew);
           printed =
               rw (en, ey, eo)
-              (laid_append (line_done text at w).text
+              (sym (laid_append (line_done text at w).text
               (lines_up_to most text last (line_end text at + 1) (line_done text at w).world).text
-              out
+              out)
               ∙ rw t at ep);
         }
 
     -- one more is done
-    pub left_next : (at end : ℕ) {w y : World} {o new : List ℕ} {k next : ℕ} → at < 65536 → at < last
-        → Left x from at w (out_of o k) → at ≤ end → end ≡ line_end text at
-        → CarriesOut o k new next y (line_done text at w) → Left x from (end + 1) y (out_of new next)
-    left_next at end {w} {y} {o} {new} {k} i j g h e a =
-        next_of g.most at (end + 1) w (out_of o k) g.enough i j g.world g.printed (omega arith)
+    pub left_next : {W : Type 0} (at end : ℕ) {w : World} {mid new : Run W} → at < 65536 → at < last
+        → Left x from at w mid.host.out → at ≤ end → end ≡ line_end text at
+        → CarriesOut mid new (line_done text at w) → Left x from (end + 1) (world_of new) new.host.out
+    left_next at end {w} {mid} i j g h e a =
+        next_of g.most at (end + 1) w mid.host.out g.enough i j g.world g.printed (omega arith)
         (ap (λ (n : ℕ). n + 1) e)
         a.world
         a.prints.later
@@ -195,10 +187,10 @@ module _ (text : List ℕ) (last : ℕ) where
   none_left (suc most) at w e = rw e
 
   -- none is left
-  pub left_last : {x : World} {o new : List ℕ} {k next : ℕ} (at : ℕ) {w : World}
-      → (ltb at 65536 && ltb at last) ≡ false → Left x (out_of o k) at w (out_of new next)
-      → CarriesOut o k new next w (lines_done text last x)
+  pub left_last : {W : Type 0} {old new : Run W} (at : ℕ) → (ltb at 65536 && ltb at last) ≡ false
+      → Left (world_of old) old.host.out at (world_of new) new.host.out
+      → CarriesOut old new (lines_done text last (world_of old))
   unfolding laid_of
-  left_last at {w} e g =
-      let n = none_left g.most at w e in
+  left_last {W} {old} {new} at e g =
+      let n = none_left g.most at (world_of new) e in
       record { world = rw n at g.world; prints = record { later = rw n at g.printed } }

@@ -1,32 +1,32 @@
 -- What ticks come to: one by what is held, several one after the other. Assumes nothing.
-use Prim.Native.Nat.{ℕ, zero, suc, ◌-◌, ◌≤◌, ◌<◌}
+use Prim.Native.Nat.{ℕ, zero, suc, ◌-◌, ◌<◌}
 use native.Mathlib.Nat.{not-suc-le-zero}
-use mathlib.Core.Path.{◌≡◌, refl, sym, ◌∙◌}
-use mathlib.Core.Bool.{true, false≢true}
+use mathlib.Core.Path.{◌≡◌, refl, sym, ◌∙◌, ap}
+use mathlib.Core.Bool.{false, false≢true}
 use mathlib.Core.List.{List, []}
 use native.Mathlib.Omega.{arith}
 use lib.IntN.{ℤ}
 use lib.ListN.{take-append-drop}
+use Rattle.std.proofs.Common.{Option, Some, None, Result, Ok, Err}
+use Rattle.std.specs.Option.{is_some}
+use Rattle.numbers.specs.declared.Refusal.{Refusal}
+use Rattle.numbers.specs.Numbers.{answered}
 use Rattle.controller.specs.declared.Controller.{Controller}
-use Rattle.controller.specs.declared.Ticked.{Ticked}
+use Rattle.controller.specs.Tick.{Ticked, ticked}
 use Rattle.replay_print.proofs.Laws.{laid_append}
-use Rattle.replay_print.specs.Out.{Output, out_of, laid_of}
+use Rattle.replay_print.specs.Out.{Output, laid_of, Prints}
 use Rattle.replay_script.specs.declared.lent.Lent.{Lent}
 use Rattle.replay_calls.specs.Calls.{tick_accepted, tick_sent, tick_answer, buffer_ticked, TickLent}
-use Rattle.replay_host.specs.Host.{Keeps, keeps_of, Comes, only, is_none}
-use Rattle.replay_host.specs.Ticks.{ticked_done, tick_for, tick_done, tick_buffer, ticks_done, ticks_buffer}
-use Rattle.replay_host.specs.declared.held.Held.TheVariants.{None, Of}
-use Rattle.replay_host.specs.declared.held.Held.{Held}
-use Rattle.replay_host.specs.declared.held.Kept.{Kept}
+use Rattle.replay_calls.specs.Counts.{count_after}
+use Rattle.replay_host.proofs.Outcomes.{comes_first}
+use Rattle.replay_host.specs.Host.{Keeps, keeps_of, Comes, only, entered}
+use Rattle.replay_host.specs.Ticks.{lending, bytes_of, tick_text, ticked_done, tick_for, tick_done, tick_buffer, ticks_done, ticks_buffer}
+use Rattle.replay_host.specs.declared.held.Host.{Host}
+use Rattle.replay_host.specs.declared.ticks.Loan.{Loan}
 
 ticked_is : (k : Ticked) (number bytes : ℕ) (c : Controller) → k.number ≡ number → k.bytes ≡ bytes → k.controller ≡ c
     → k ≡ record { number = number; bytes = bytes; controller = c }
 ticked_is k number bytes c a b e = rw (← a, ← b, ← e)
-
-held_none : (h : Held) → is_none h ≡ true → h ≡ None
-unfolding is_none
-held_none None e = refl
-held_none (Of c) e = absurd (false≢true e)
 
 pub ticked_same : (x : Keeps) (k j : Ticked) (b d : List ℕ) → k ≡ j → b ≡ d → ticked_done x k b ≡ ticked_done x j d
 ticked_same x k j b d e f = rw (e, f)
@@ -47,21 +47,21 @@ module _ (l : Lent) (v : List ℕ) (t : List ℤ) where
   unfolding tick_done tick_for tick_buffer
   tick_none old x e = (rw e, rw e)
 
-  pub tick_of_lem : (old : List ℕ) (x : Keeps) (c : Controller) → x.held ≡ Of c
+  pub tick_of_lem : (old : List ℕ) (x : Keeps) (c : Controller) → x.held ≡ Some c
       → (ticked_done x (tick_answer c l v t old) (buffer_ticked c l v t old) ≡ tick_done l v t old x)
       × (buffer_ticked c l v t old ≡ tick_buffer l v t old x.held)
   unfolding tick_done tick_for tick_buffer
   tick_of_lem old x c e = (rw e, rw e)
 
   -- without a controller so many ticks come to nothing
-  no_ticks : (n : ℕ) (old : List ℕ) (x : Keeps) → x.held ≡ None
-      → (ticks_done l v t n old x ≡ only [] x) × (ticks_buffer l v t n old x ≡ old)
+  pub no_ticks : (n : ℕ) (old : List ℕ) (x : Keeps) → x.held ≡ None
+      → (only [] x ≡ ticks_done l v t n old x) × (old ≡ ticks_buffer l v t n old x)
   unfolding ticks_done ticks_buffer
   no_ticks zero old x e = (refl, refl)
   no_ticks (suc n) old x e =
       let a = tick_none old x e in
       let b = no_ticks n old x e in
-      (rw (← a.0, ← a.1) (rw b.0), rw (← a.0, ← a.1) b.1)
+      (rw (← a.0, ← a.1) (rw (← b.0)), rw (← a.0, ← a.1) b.1)
 
   -- the ticks that are left come to what all of them come to
   pub record Going (n : ℕ) (old : List ℕ) (x : Keeps) (from : Output)
@@ -85,47 +85,57 @@ module _ (l : Lent) (v : List ℕ) (t : List ℤ) where
           kept = rw (ez, el) g.kept;
           printed =
               rw (ez, el, eo)
-              (laid_append (tick_done l v t buf y).text
+              (sym (laid_append (tick_done l v t buf y).text
               (ticks_done l v t m (tick_buffer l v t buf y.held) (tick_done l v t buf y).kept).text
-              at
+              at)
               ∙ g.printed);
           buffer = rw (ez, el) g.buffer;
         }
 
     -- one more is done
-    pub going_next : (left : ℕ) {buf later o new : List ℕ} (k : Kept) {r : Kept} → 0 < left
-        → Going n old x from left buf (keeps_of k) (out_of o k.out)
-        → Comes o k.out new r (tick_done l v t buf (keeps_of k)) → later ≡ tick_buffer l v t buf k.held
-        → Going n old x from (left - 1) later (keeps_of r) (out_of new r.out)
-    going_next zero k h g a e = absurd (not-suc-le-zero h)
-    going_next (suc m) k h g a e =
+    pub going_next : {W : Type 0} (left : ℕ) {buf later : List ℕ} {h r : Host W} → 0 < left
+        → Going n old x from left buf (keeps_of h) h.out
+        → Comes h r (tick_done l v t buf (keeps_of h)) → later ≡ tick_buffer l v t buf h.held
+        → Going n old x from (left - 1) later (keeps_of r) r.out
+    going_next zero b g a e = absurd (not-suc-le-zero b)
+    going_next (suc m) b g a e =
         let s : suc m - 1 ≡ m = omega arith in
         rw s (going_suc m g a.kept a.prints.later e)
 
-  module _ {n : ℕ} {old : List ℕ} {x : Keeps} {o : List ℕ} {at : ℕ} where
-    going_end : {buf new : List ℕ} (k : Kept) → Going n old x (out_of o at) 0 buf (keeps_of k) (out_of new k.out)
-        → Comes o at new k (ticks_done l v t n old x) × (buf ≡ ticks_buffer l v t n old x)
-    unfolding ticks_done ticks_buffer laid_of
-    going_end k g = (record { kept = g.kept; prints = record { later = g.printed } }, g.buffer)
+module _ {W : Type 0} where
+  -- a tick that was answered
+  pub ticked_comes : (a : Result ℕ Refusal) (c : Controller) (buf : List ℕ) {old mid new : Host W}
+      → Prints old.out mid.out (tick_text (answered a) (bytes_of a) old.accepted buf)
+      → Comes mid new (entered old.held c (count_after (answered a) old.accepted))
+      → Comes old new (ticked_done (keeps_of old) (ticked a c) buf)
+  unfolding ticked_done
+  ticked_comes (Ok n) c buf p e = comes_first p e
+  ticked_comes (Err refusal) c buf p e = comes_first p e
 
-    -- none is left
-    pub going_last : (left : ℕ) {buf new : List ℕ} (k : Kept) → left ≤ 0
-        → Going n old x (out_of o at) left buf (keeps_of k) (out_of new k.out)
-        → Comes o at new k (ticks_done l v t n old x) × (buf ≡ ticks_buffer l v t n old x)
-    going_last left k h g =
-        let z : left ≡ 0 = omega arith in
-        going_end k (rw z at g)
+  -- a tick of a loop, with what it is lent: one more is done, and only the buffer is another
+  pub going_on : (l y : Loan) {z : Loan} {n : ℕ} {old : List ℕ} {x : Keeps} {from : Output} (left : ℕ) {h r : Host W}
+      → 0 < left → y ≡ lending l y.buffer
+      → Going l.lent l.volts l.temps n old x from left y.buffer (keeps_of h) h.out
+      → Comes h r (tick_done y.lent y.volts y.temps y.buffer (keeps_of h))
+      → z ≡ lending y (tick_buffer y.lent y.volts y.temps y.buffer h.held)
+      → (z ≡ lending l z.buffer)
+      × Going l.lent l.volts l.temps n old x from (left - 1) z.buffer (keeps_of r) r.out
+  going_on l y left b e g a f =
+      let el = ap (λ (k : Loan). k.lent) e in
+      let ev = ap (λ (k : Loan). k.volts) e in
+      let et = ap (λ (k : Loan). k.temps) e in
+      let c = rw (el, ev, et) at a in
+      let d = rw (el, ev, et) at f in
+      (rw d refl, going_next l.lent l.volts l.temps left b g c (ap (λ (k : Loan). k.buffer) d))
 
-    -- some are left, and there is no controller
-    pub going_idle : (left : ℕ) {buf new : List ℕ} (k : Kept) → is_none k.held ≡ true
-        → Going n old x (out_of o at) left buf (keeps_of k) (out_of new k.out)
-        → Comes o at new k (ticks_done l v t n old x) × (buf ≡ ticks_buffer l v t n old x)
-    unfolding laid_of
-    going_idle left {buf} k h g =
-        let e = no_ticks left buf (keeps_of k) (held_none k.held h) in (
-          record {
-            kept = rw e.0 at g.kept;
-            prints = record { later = rw e.0 at g.printed };
-          },
-          rw e.1 at g.buffer,
-        )
+  -- none is left
+  pub going_last : {l : Lent} {v : List ℕ} {t : List ℤ} {n : ℕ} {old buf : List ℕ} {h r : Host W}
+      → Going l v t n old (keeps_of h) h.out 0 buf (keeps_of r) r.out
+      → Comes h r (ticks_done l v t n old (keeps_of h)) × (buf ≡ ticks_buffer l v t n old (keeps_of h))
+  unfolding ticks_done ticks_buffer laid_of
+  going_last g = (record { kept = g.kept; prints = record { later = g.printed } }, g.buffer)
+
+-- no controller is held where an Option is none
+pub held_none : (h : Option Controller) → is_some h ≡ false → h ≡ None
+held_none None e = refl
+held_none (Some c) e = absurd (false≢true (sym e))

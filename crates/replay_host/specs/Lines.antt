@@ -1,18 +1,19 @@
 -- Lines carried out: what each makes of a run by what it asks for (docs/REPLAY.md, "Input"), and all of them in turn.
-use Rattle.std.specs.Prelude.{ℕ, zero, suc, ◌+◌, ◌≡◌, cond, ◌&&◌, List, [], ◌++◌, ltb, ℤ, take, Option, None, Some}
+use Rattle.std.specs.Prelude.{ℕ, zero, suc, ◌+◌, ◌≡◌, cond, ◌&&◌, List, [], ◌++◌, ltb, ℤ, take, replicate, Option, None, Some}
 use Rattle.replay_text.specs.Lines.{line_end}
 use Rattle.replay_script.specs.declared.Asked.{Asked}
 use Rattle.replay_script.specs.declared.Asked.TheVariants as asks
 use Rattle.replay_script.specs.declared.clock.Clock.{Clock}
 use Rattle.replay_script.specs.declared.lent.Lent.{Lent}
 use Rattle.replay_script.specs.Clocks.{due_of, unset_clock}
-use Rattle.replay_script.specs.Lent.{lent_after, first_lent}
+use Rattle.replay_script.specs.Lent.{lent_after, first_lent, first_voltages, first_temperatures}
 use Rattle.replay_script.specs.Lines.{asked_in, bytes_after, volts_after, temps_after}
 use Rattle.replay_print.specs.Out.{Prints}
+use Rattle.replay_host.specs.declared.held.Host.{Host}
 use Rattle.replay_host.specs.declared.lines.Run.{Run}
-use Rattle.replay_host.specs.Host.{Keeps, Outcome, keeps_of, only, first, start_kept, absent_done, settings_done}
+use Rattle.replay_host.specs.Host.{Keeps, Outcome, keeps_of, Comes, only, first, start_keeps, absent_done, settings_done}
 use Rattle.replay_host.specs.Host.{frame_done, write_done, write_buffer, unreadable_done}
-use Rattle.replay_host.specs.Ticks.{ticks_done, ticks_buffer}
+use Rattle.replay_host.specs.Ticks.{lending, ticks_done, ticks_buffer}
 use Rattle.replay_calls.specs.Counts.{next_number}
 
 -- all that a run has from line to line, but for the output: what is kept, what ticks are lent, a log's clock, the
@@ -32,23 +33,37 @@ pub record Carried : Type 0 where
   pub world : World
   pub text : List ℕ
 
--- a run of the code, with the arrays beside it
-abbrev pub world_of : Run → List ℕ → List ℕ → List ℤ → List ℕ → World
-world_of r bytes volts temps buffer =
+-- what a run of the code has
+abbrev pub world_of : {W : Type 0} → Run W → World
+world_of r =
     record {
-      keeps = keeps_of r.kept;
-      lent = r.lent;
+      keeps = keeps_of r.host;
+      lent = r.loan.lent;
       clock = r.clock;
       number = r.number;
-      bytes = bytes;
-      volts = volts;
-      temps = temps;
-      buffer = buffer;
+      bytes = r.bytes;
+      volts = r.loan.volts;
+      temps = r.loan.temps;
+      buffer = r.loan.buffer;
     }
 
--- at the start: no controller, what ticks are lent at first, no time zero, no line read
-unfoldable pub start_run : Run
-start_run = record { kept = start_kept; lent = first_lent; clock = unset_clock; number = 0 }
+-- the same run with another host and another buffer
+abbrev pub having : {W : Type 0} → Run W → Host W → List ℕ → Run W
+having r host buffer = record r { host = host; loan = lending r.loan buffer }
+
+-- at the start: no controller, what ticks are lent at first, no time zero, no line read, and nothing in the other arrays
+unfoldable pub start_world : World
+start_world =
+    record {
+      keeps = start_keeps;
+      lent = first_lent;
+      clock = unset_clock;
+      number = 0;
+      bytes = replicate 2048 0;
+      volts = first_voltages;
+      temps = first_temperatures;
+      buffer = replicate 4096 0;
+    }
 
 -- one call, then another on what is kept after it
 abbrev pub and_then : Outcome → (Keeps → Outcome) → Outcome
@@ -100,6 +115,11 @@ calls_buffer (asks.Ticks n) w = buffer_in w n
 calls_buffer (asks.Frame id n) w = w.buffer
 calls_buffer (asks.Logged now id n) w = logged_buffer (due_of w.clock now) w
 calls_buffer (asks.Write n) w = write_buffer n w.buffer w.keeps.held
+
+-- the promise of a line's calls: what they come to, the buffer after them, and nothing else of the run changed
+pub record Makes {W : Type 0} (old new : Run W) (asked : Asked) : Type 0 where
+  pub comes : Comes old.host new.host (calls_done asked (world_of old))
+  pub rest : new ≡ having old new.host (calls_buffer asked (world_of old))
 
 -- a log's clock after a line: only a frame of a log moves it
 unfoldable pub clock_after : Asked → Clock → Clock
@@ -174,6 +194,6 @@ unfoldable pub lines_done : List ℕ → ℕ → World → Carried
 lines_done text last w = lines_up_to 65536 text last 0 w
 
 -- the promise: what the run has after, and nothing else printed
-pub record CarriesOut (old : List ℕ) (at : ℕ) (new : List ℕ) (next : ℕ) (w : World) (x : Carried) : Type 0 where
-  pub world : w ≡ x.world
-  pub prints : Prints old at new next x.text
+pub record CarriesOut {W : Type 0} (old new : Run W) (x : Carried) : Type 0 where
+  pub world : world_of new ≡ x.world
+  pub prints : Prints old.host.out new.host.out x.text

@@ -1,186 +1,128 @@
 // What is held from call to call; and a settings record, a frame or a write: called, and what it was answered and
 // changed printed.
-ghost use Rattle.std.specs.Prelude.{◌≡◌, Bool, take};
-ghost use Rattle.replay_host.specs.Host.{keeps_of, Comes, standing_in, standing_held, entered, settings_done};
-ghost use Rattle.replay_host.specs.Host.{answer_done, frame_done, written_done, write_done, write_buffer, absent_done};
-ghost use Rattle.replay_host.specs.Host.{unreadable_done, start_kept, is_none};
+ghost use Rattle.std.specs.Prelude.{◌≡◌};
+ghost use Rattle.numbers.specs.Numbers.{answered};
+ghost use Rattle.replay_host.specs.Host.{keeps_of, Comes, standing_held, standing_done, settings_done, start_keeps};
+ghost use Rattle.replay_host.specs.Host.{frame_done, write_done, write_buffer, absent_done, unreadable_done};
 
-use controller::{Answer, Controller, Start};
+use controller::{Controller, setup};
+use numbers::Refusal;
 use replay_calls::calls;
+use replay_print::answers;
 use replay_print::out::Out;
 use replay_print::standings::Standing;
-use replay_print::{Buffer, answers};
-use replay_text::hex::Bytes;
-use settings::Written;
-use std::io::Print;
+use std::io::Write;
 
-// The controller in use, once a settings record was accepted.
-#[derive(Clone, Copy)]
-pub enum Held {
-    None,
-    Of(Controller),
-}
+// The buffer of which each tick and write is lent the first bytes.
+pub type Buffer = [u8; 4096];
 
-// The controller in use, the ticks that it has accepted, and the free place of the output.
-#[derive(Clone, Copy)]
-pub struct Kept {
-    pub held: Held,
+// The controller in use, once a settings record was accepted, the ticks that it has accepted, and the output.
+#[derive(Drop)]
+pub struct Host<W> {
+    pub held: Option<Controller>,
     pub accepted: u64,
-    pub out: usize,
+    pub out: Out<W>,
 }
 
-// The standing of a controller's session.
-#[tactic(auto, unfolding(crate::specs::Host::standing_in))]
-fn standing(c: Controller) -> Standing
-    ensures { result ≡ standing_in c }
+// The number that an answer carries.
+fn number<T>(answer: &Result<T, Refusal>) -> u8
+    ensures { result ≡ answered answer.now }
 {
-    let s = c.session;
-    let state = s.state;
-    Standing::of(state, s.station)
-}
-
-impl Held {
-    #[tactic(auto, unfolding(crate::specs::Host::standing_held))]
-    fn standing(self) -> Standing
-        ensures { result ≡ standing_held self }
-    {
-        match self {
-            Held::None => Standing::idle(),
-            Held::Of(c) => standing(c),
-        }
+    match answer {
+        Ok(_) => 0,
+        Err(refusal) => refusal.number(),
     }
 }
 
-impl Kept {
-    #[tactic(auto, unfolding(crate::specs::Host::start_kept))]
-    pub fn start() -> Kept
-        ensures { result ≡ start_kept }
+impl<W: Write> Host<W> {
+    #[tactic(auto, unfolding(crate::specs::Host::start_keeps))]
+    pub fn start(out: Out<W>) -> Host<W>
+        ensures { (keeps_of result ≡ start_keeps) × (result.out ≡ out) }
     {
-        Kept {
-            held: Held::None,
+        Host {
+            held: None,
             accepted: 0,
-            out: 0,
+            out,
         }
     }
 
-    // The same, at another place of the output.
-    fn at(self, out: usize) -> Kept
-        ensures { (keeps_of result ≡ keeps_of self) × (result.out ≡ out) }
+    // The standing of the controller's session; Idle before there is one.
+    #[tactic(auto, unfolding(crate::specs::Host::standing_held, crate::specs::Host::standing_in))]
+    pub(crate) fn standing(&self) -> Standing
+        ensures { result ≡ standing_held self.now.held }
     {
-        let mut k = self;
-        k.out = out;
-        k
+        match &self.held {
+            None => Standing::Idle,
+            Some(c) => Standing::of(c.session.state, c.session.station),
+        }
     }
 
-    // The controller that a call gave, after so many accepted ticks. Its standing is printed last, where the call has
-    // changed it.
-    #[tactic(auto, unfolding(crate::specs::Host::entered))]
-    pub fn with<R: Print>(
-        self,
-        rt: &R,
-        c: Controller,
-        accepted: u64,
-        o: &mut Out,
-        at: usize,
-    ) -> Kept
-        ensures { Comes o.old at o.new result (entered self.held c accepted) }
+    // The standing, where a call has changed it; it is printed last.
+    pub(crate) fn changed(&mut self, before: Standing)
+        ensures { Comes self.old self.new (standing_done before (keeps_of self.old)) }
     {
-        let before = self.held;
-        let now = standing(c);
-        let out = now.changed(rt, o, at, before.standing());
-        Kept {
-            held: Held::Of(c),
-            accepted: accepted,
-            out: out,
-        }
+        self.standing().changed(&mut self.out, before);
     }
 
     // A line that cannot be read, by its number.
     #[tactic(auto, unfolding(crate::specs::Host::unreadable_done))]
-    pub fn unreadable<R: Print>(self, rt: &R, number: u64, o: &mut Out) -> Kept
-        ensures { Comes o.old self.out o.new result (unreadable_done number (keeps_of self)) }
+    pub fn unreadable(&mut self, number: u64)
+        ensures { Comes self.old self.new (unreadable_done number (keeps_of self.old)) }
     {
-        self.at(answers::unreadable(rt, o, self.out, number))
-    }
-
-    // Whether there is no controller.
-    #[tactic(auto, unfolding(crate::specs::Host::is_none))]
-    pub fn is_empty(self) -> bool
-        ensures { result ≡ is_none self.held }
-    {
-        let held = self.held;
-        match held {
-            Held::None => true,
-            Held::Of(_) => false,
-        }
+        answers::unreadable(&mut self.out, number);
     }
 
     // That there is no controller, where there is none.
-    pub fn absent<R: Print>(self, rt: &R, o: &mut Out) -> Kept
-        ensures { Comes o.old self.out o.new result (absent_done (keeps_of self)) }
+    #[tactic(auto, unfolding(crate::specs::Host::absent_done, crate::specs::Host::absent_for))]
+    pub fn absent(&mut self)
+        ensures { Comes self.old self.new (absent_done (keeps_of self.old)) }
     {
-        if self.is_empty() {
-            self.at(answers::no_controller(rt, o, self.out))
-        } else {
-            self
+        if self.held.is_none() {
+            answers::no_controller(&mut self.out);
         }
     }
 
-    // A settings record of the first n bytes: a fresh controller, or the one in use stays.
-    pub fn settings<R: Print>(self, rt: &R, bytes: &Bytes, n: usize, o: &mut Out) -> Kept
-        ensures { Comes o.old self.out o.new result
-            (settings_done (take n bytes.now) (keeps_of self)) }
+    // A settings record: a fresh controller, or the one in use stays.
+    #[tactic(auto, unfolding(crate::specs::Host::settings_done, crate::specs::Host::start_done))]
+    pub fn settings(&mut self, bytes: &[u8])
+        ensures { Comes self.old self.new (settings_done bytes.now (keeps_of self.old)) }
     {
-        match calls::read(bytes, n) {
-            Start::Made(c) => {
-                let a = answers::settings(rt, o, self.out, 0);
-                self.with(rt, c, 0, o, a)
+        let before = self.standing();
+        match setup::read(bytes) {
+            Ok(c) => {
+                self.held = Some(c);
+                self.accepted = 0;
+                answers::settings(&mut self.out, 0);
+                self.changed(before);
             }
-            Start::Refused(number) => self.at(answers::settings(rt, o, self.out, number)),
+            Err(refusal) => answers::settings(&mut self.out, refusal.number()),
         }
     }
 
-    // What a frame was answered.
-    fn answered<R: Print>(self, rt: &R, x: Answer, o: &mut Out) -> Kept
-        ensures { Comes o.old self.out o.new result (answer_done (keeps_of self) x) }
+    // A frame with these data.
+    pub fn frame(&mut self, id: u32, bytes: &[u8])
+        ensures { Comes self.old self.new (frame_done id bytes.now (keeps_of self.old)) }
     {
-        let next = x.controller;
-        let a = answers::frame(rt, o, self.out, x.number);
-        self.with(rt, next, self.accepted, o, a)
-    }
-
-    // A frame whose data are the first n bytes.
-    pub fn frame<R: Print>(self, rt: &R, id: u32, bytes: &Bytes, n: usize, o: &mut Out) -> Kept
-        ensures { Comes o.old self.out o.new result
-            (frame_done id (take n bytes.now) (keeps_of self)) }
-    {
-        let held = self.held;
-        match held {
-            Held::None => self.absent(rt, o),
-            Held::Of(c) => self.answered(rt, calls::frame(c, id, bytes, n), o),
-        }
-    }
-
-    // What a write was answered, and what it wrote.
-    #[tactic(auto, unfolding(crate::specs::Host::written_done))]
-    fn written<R: Print>(self, rt: &R, x: Written, buf: &Buffer, o: &mut Out) -> Kept
-        ensures { Comes o.old self.out o.new result
-            (written_done (keeps_of self) x buf.now) }
-    {
-        self.at(answers::write(rt, o, self.out, x.number, x.bytes, buf))
+        let before = self.standing();
+        let Some(c) = &mut self.held else {
+            return answers::no_controller(&mut self.out);
+        };
+        let answer = c.frame(id, bytes);
+        answers::frame(&mut self.out, number(&answer));
+        self.changed(before);
     }
 
     // The settings in use written into the first n bytes.
-    #[tactic(auto, unfolding(crate::specs::Host::write_done, crate::specs::Host::write_buffer))]
-    pub fn write<R: Print>(self, rt: &R, n: usize, buf: &mut Buffer, o: &mut Out) -> Kept
-        ensures comes { Comes o.old self.out o.new result
-            (write_done n buf.old (keeps_of self)) }
-        ensures buf_after { buf.new ≡ write_buffer n buf.old self.held }
+    pub fn write(&mut self, n: usize, buf: &mut Buffer)
+        ensures comes { Comes self.old self.new (write_done n buf.old (keeps_of self.old)) }
+        ensures buf_after { buf.new ≡ write_buffer n buf.old self.old.held }
     {
-        let held = self.held;
-        match held {
-            Held::None => self.absent(rt, o),
-            Held::Of(c) => self.written(rt, calls::write(c, buf, n), buf, o),
+        let Some(c) = &self.held else {
+            return answers::no_controller(&mut self.out);
+        };
+        match calls::write(c, buf, n) {
+            Ok(bytes) => answers::write(&mut self.out, 0, bytes, buf),
+            Err(refusal) => answers::write(&mut self.out, refusal.number(), 0, buf),
         }
     }
 }

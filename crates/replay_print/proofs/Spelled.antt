@@ -2,16 +2,15 @@
 -- more, one byte more in hex. Assumes nothing.
 use Prim.Native.Nat.{ℕ, zero, suc, ◌+◌, ◌-◌, ◌*◌, ◌/◌, ◌%◌, ◌^◌, ◌≤◌, ◌<◌}
 use native.Mathlib.Nat.{pow-succ', one-le-pow, pow-le-pow_right}
-use mathlib.Core.Path.{◌≡◌, refl, sym, ◌∙◌, ap}
+use mathlib.Core.Path.{◌≡◌, refl}
 use mathlib.Core.Bool.{Bool, true, false, cond}
-use mathlib.Core.List.{List, [], ◌∷◌, ◌++◌, append_assoc, append-nil}
+use mathlib.Core.List.{[], ◌∷◌}
 use native.Mathlib.Omega.{arith}
 use borrow.Author.Tests.{lt-ltb, le-ltb, leb-true, leb-false}
 use lib.Dec.{ltb, leb}
-use lib.ListN.{length, take, drop, get_or, replicate, length-append, length-drop}
-use lib.Seq.{take-suc, get_or-drop}
+use lib.ListN.{length, length-append}
 use Rattle.io.specs.Digits.{last_digits, IsDigitCount, hex_digit_ascii}
-use Rattle.replay_print.specs.Text.{digits_up_to, decimal_of, padded_of, hex_of, hexes_of}
+use Rattle.replay_print.specs.Text.{digits_up_to, decimal_of, padded_of}
 
 -- the last digit
 glyph_last : (n : ℕ) → hex_digit_ascii (n % 10) ≡ 48 + n % 10
@@ -78,33 +77,3 @@ unfolding padded_of
 padded_one n =
     let z : 1 - length (decimal_of n) ≡ 0 = omega (arith, length_decimal n) in
     rw z
-
--- one zero more
-pub one_more : (n b : ℕ) → replicate n b ++ (b ∷ []) ≡ replicate (suc n) b
-one_more zero b = refl
-one_more (suc n) b = ap (λ (t : List ℕ). b ∷ t) (one_more n b)
-
-hexes_append : (xs ys : List ℕ) → hexes_of (xs ++ ys) ≡ hexes_of xs ++ hexes_of ys
-unfolding hexes_of
-hexes_append [] ys = refl
-hexes_append (b ∷ xs) ys =
-    ap (λ (t : List ℕ). hex_of b ++ t) (hexes_append xs ys) ∙ sym (append_assoc (hex_of b) (hexes_of xs) (hexes_of ys))
-
-hexes_snoc : (xs : List ℕ) (b : ℕ) → hexes_of xs ++ hex_of b ≡ hexes_of (xs ++ (b ∷ []))
-unfolding hexes_of
-hexes_snoc xs b =
-    ap (λ (t : List ℕ). hexes_of xs ++ t) (sym (append-nil (hex_of b))) ∙ sym (hexes_append xs (b ∷ []))
-
--- one byte more of those from a place on
-pub hexes_next : (s : List ℕ) (from i : ℕ) → from ≤ i → i < length s
-    → hexes_of (take (i - from) (drop from s)) ++ hex_of (get_or s i 0) ≡ hexes_of (take (i + 1 - from) (drop from s))
-hexes_next s from i h l =
-    let n : length (drop from s) ≡ length s - from = length-drop from s in
-    let e : i + 1 - from ≡ suc (i - from) = omega arith in
-    let at : from + (i - from) ≡ i = omega arith in
-    let x : get_or s i 0 ≡ get_or (drop from s) (i - from) 0 =
-    sym (get_or-drop from s (i - from) 0 ∙ ap (λ (k : ℕ). get_or s k 0) at) in
-    ap (λ (b : ℕ). hexes_of (take (i - from) (drop from s)) ++ hex_of b) x
-    ∙ (hexes_snoc (take (i - from) (drop from s)) (get_or (drop from s) (i - from) 0)
-    ∙ ap hexes_of
-    (sym (ap (λ (k : ℕ). take k (drop from s)) e ∙ take-suc (drop from s) (i - from) 0 (omega arith))))

@@ -6,7 +6,7 @@ use Rattle.replay_print.specs.Quoted.{quoted}
 use Rattle.replay_print.specs.Text.{digits_up_to, decimal_of, padded_of, hex_of, hexes_of}
 use Rattle.replay_print.specs.Answers.{numbered_line, settings_line, written_text, write_line}
 use Rattle.replay_print.specs.Frames.{time_text, frame_text, sent_line, sent_lines, sent_text}
-use Rattle.replay_print.specs.Standings.{state_name, standing_of, station_text, standing_line}
+use Rattle.replay_print.specs.Standings.{standing_of, standing_text, standing_line}
 
 pub settings_row : settings_line 0 ≡ quoted "settings 0\n"
 unfolding numbered_line decimal_of digits_up_to
@@ -28,9 +28,9 @@ unfolding sent_text sent_lines sent_line time_text padded_of decimal_of digits_u
 sent_row = refl
 
 pub idle_row : standing_line (standing_of state.Idle 0x56) ≡ quoted "state Idle\n"
-unfolding standing_line standing_of state_name station_text
+unfolding standing_line standing_of standing_text
 idle_row = refl
 
 pub offered_row : standing_line (standing_of state.Offered 0x56) ≡ quoted "state Offered 56\n"
-unfolding standing_line standing_of state_name station_text hex_of
+unfolding standing_line standing_of standing_text hex_of
 offered_row = refl

@@ -28,7 +28,7 @@ unfoldable pub laid_of : List ℕ → Output → Output
 laid_of [] x = x
 laid_of (b ∷ text) x = laid_of text (put_of b x)
 
--- what it is to print a text: the buffer `old` with the free place `at` becomes `new` with the free place `next`, by
--- the bytes of the text laid one after the other and by nothing else
-pub record Prints (old : List ℕ) (at : ℕ) (new : List ℕ) (next : ℕ) (text : List ℕ) : Type 0 where
-  pub later : out_of new next ≡ laid_of text (out_of old at)
+-- what it is to print a text: the output `old` becomes `new` by the bytes of the text laid one after the other and by
+-- nothing else
+pub record Prints (old new : Output) (text : List ℕ) : Type 0 where
+  pub later : new ≡ laid_of text old

@@ -1,5 +1,5 @@
 -- Numbers and bytes as text: in decimal, and in hex.
-use Rattle.std.specs.Prelude.{ℕ, zero, suc, ◌+◌, ◌-◌, ◌/◌, ◌%◌, cond, List, [], ◌∷◌, ◌++◌, ltb, length, take, drop, replicate}
+use Rattle.std.specs.Prelude.{ℕ, zero, suc, ◌+◌, ◌-◌, ◌/◌, ◌%◌, cond, List, [], ◌∷◌, ◌++◌, ltb, length, replicate}
 
 -- the decimal digits of a number, of which there are at most so many: the digits of its tenth part, where that is not
 -- 0, and then the last one
@@ -22,10 +22,6 @@ hex_digit d = cond (ltb d 10) (48 + d) (65 + (d - 10))
 -- a byte as two hex digits
 unfoldable pub hex_of : ℕ → List ℕ
 hex_of b = hex_digit (b / 16) ∷ hex_digit (b % 16) ∷ []
-
--- the bytes from a place up to another; those past the end are left out
-abbrev pub part_of : ℕ → ℕ → List ℕ → List ℕ
-part_of from to bytes = take (to - from) (drop from bytes)
 
 -- several bytes, with nothing between them
 unfoldable pub hexes_of : List ℕ → List ℕ

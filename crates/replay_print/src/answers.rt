@@ -4,72 +4,75 @@ ghost use Rattle.replay_print.specs.Answers.{numbered_line, settings_line, frame
 ghost use Rattle.replay_print.specs.Answers.{unreadable_line, no_controller_line, written_text, write_line};
 
 use crate::out::Out;
-use crate::{Buffer, numerals, out};
-use std::io::Print;
+use std::io::Write;
 
 // A word, a number and the end of the line.
-fn numbered<R: Print>(rt: &R, o: &mut Out, at: usize, s: &[u8], n: u64) -> usize
-    ensures { Prints o.old at o.new result (numbered_line s.now n) }
+fn numbered<W: Write>(o: &mut Out<W>, word: &[u8], n: u64)
+    ensures { Prints o.old o.new (numbered_line word.now n) }
 {
-    let a = out::text(rt, o, at, s);
-    let b = numerals::decimal(rt, o, a, n, 1);
-    out::put(rt, o, b, b'\n')
+    o.text(word);
+    o.decimal(n, 1);
+    o.put(b'\n');
 }
 
 // The number of a settings record.
-pub fn settings<R: Print>(rt: &R, o: &mut Out, at: usize, number: u8) -> usize
-    ensures { Prints o.old at o.new result (settings_line number) }
+// These stay four functions: each is its word alone, over the one `numbered`, and an enum of words would be longer.
+pub fn settings<W: Write>(o: &mut Out<W>, number: u8)
+    ensures { Prints o.old o.new (settings_line number) }
 {
-    numbered(rt, o, at, b"settings ", number as u64)
+    numbered(o, b"settings ", number as u64);
 }
 
 // The number of a received frame.
-pub fn frame<R: Print>(rt: &R, o: &mut Out, at: usize, number: u8) -> usize
-    ensures { Prints o.old at o.new result (frame_line number) }
+pub fn frame<W: Write>(o: &mut Out<W>, number: u8)
+    ensures { Prints o.old o.new (frame_line number) }
 {
-    numbered(rt, o, at, b"frame ", number as u64)
+    numbered(o, b"frame ", number as u64);
 }
 
 // The number of a tick that is refused.
-pub fn tick<R: Print>(rt: &R, o: &mut Out, at: usize, number: u8) -> usize
-    ensures { Prints o.old at o.new result (tick_line number) }
+pub fn tick<W: Write>(o: &mut Out<W>, number: u8)
+    ensures { Prints o.old o.new (tick_line number) }
 {
-    numbered(rt, o, at, b"tick ", number as u64)
+    numbered(o, b"tick ", number as u64);
 }
 
 // The bytes written: the first n of the buffer, or `-` for none.
-fn written<R: Print>(rt: &R, o: &mut Out, at: usize, n: usize, buf: &Buffer) -> usize
-    ensures { Prints o.old at o.new result (written_text n buf.now) }
+#[tactic(auto, using(std::proofs::lemmas::List::take_min), unfolding(crate::specs::Answers::written_text))]
+fn written<W: Write>(o: &mut Out<W>, n: usize, buf: &[u8])
+    ensures { Prints o.old o.new (written_text n buf.now) }
 {
     if n == 0 {
-        return out::put(rt, o, at, b'-');
+        o.put(b'-');
+    } else {
+        o.bytes(&buf[..n.min(buf.len())]);
     }
-    numerals::bytes(rt, o, at, buf, 0, n)
 }
 
-// A write's number, how many bytes it wrote, and these.
-pub fn write<R: Print>(rt: &R, o: &mut Out, at: usize, number: u8, n: usize, buf: &Buffer) -> usize
-    ensures { Prints o.old at o.new result (write_line number n buf.now) }
+// A write's number, how many bytes it wrote, and these, the first ones of the buffer.
+// Stays a count beside the bytes: `write_line` is promised of a count past their end too, which no slice can have.
+pub fn write<W: Write>(o: &mut Out<W>, number: u8, n: usize, buf: &[u8])
+    ensures { Prints o.old o.new (write_line number n buf.now) }
 {
-    let mut a = out::text(rt, o, at, b"write ");
-    a = numerals::decimal(rt, o, a, number as u64, 1);
-    a = out::put(rt, o, a, b' ');
-    a = numerals::decimal(rt, o, a, n as u64, 1);
-    a = out::put(rt, o, a, b' ');
-    a = written(rt, o, a, n, buf);
-    out::put(rt, o, a, b'\n')
+    o.text(b"write ");
+    o.decimal(number as u64, 1);
+    o.put(b' ');
+    o.decimal(n as u64, 1);
+    o.put(b' ');
+    written(o, n, buf);
+    o.put(b'\n');
 }
 
 // A call before there is a controller.
-pub fn no_controller<R: Print>(rt: &R, o: &mut Out, at: usize) -> usize
-    ensures { Prints o.old at o.new result no_controller_line }
+pub fn no_controller<W: Write>(o: &mut Out<W>)
+    ensures { Prints o.old o.new no_controller_line }
 {
-    out::text(rt, o, at, b"no controller\n")
+    o.text(b"no controller\n");
 }
 
 // A line that cannot be read, by its number.
-pub fn unreadable<R: Print>(rt: &R, o: &mut Out, at: usize, number: u64) -> usize
-    ensures { Prints o.old at o.new result (unreadable_line number) }
+pub fn unreadable<W: Write>(o: &mut Out<W>, number: u64)
+    ensures { Prints o.old o.new (unreadable_line number) }
 {
-    numbered(rt, o, at, b"unreadable line ", number)
+    numbered(o, b"unreadable line ", number);
 }

@@ -1,48 +1,74 @@
-// The output, by way of a buffer that is written to standard output where it is full.
-ghost use Rattle.replay_print.specs.Out.{Prints};
-ghost use Rattle.std.specs.Prelude.{[], ◌∷◌};
+// The output, by way of a buffer that is written out where it is full.
+ghost use Rattle.std.specs.Prelude.{◌≡◌, [], ◌∷◌, replicate};
+ghost use Rattle.replay_print.specs.Out.{Prints, out_of};
 
-use std::io::{Print, Write};
+use std::io::Write;
+use std::marker::Model;
 
-// The output that waits to be written.
-pub type Out = [u8; 65536];
-
-// The first `at` bytes of the buffer, written out.
-fn flush<R: Print>(rt: &R, o: &[u8], at: usize) {
-    if at <= o.len() {
-        let mut w = std::io::writer(rt);
-        let _ = w.write_all(&o[0..at]);
-    }
+// The output that waits to be written, and where to. Any place may be the free one: at one past the buffer it is full.
+#[derive(Drop)]
+pub struct Out<W> {
+    pub to: W,
+    pub buf: [u8; 65536],
+    pub at: usize,
 }
 
-// One byte.
-pub fn put<R: Print>(rt: &R, o: &mut Out, at: usize, b: u8) -> usize
-    ensures { Prints o.old at o.new result (b ∷ []) }
-{
-    if at < 65536 {
-        o[at] = b;
-        return at + 1;
-    }
-    flush(rt, o, at);
-    o[0] = b;
-    1
+// A promise speaks of what waits, and not of where it is written.
+impl<W> Model for Out<W> {
+    ghost use Rattle.replay_print.specs.Out.{Output, out_of};
+
+    ghost Value = { Output };
+
+    ghost view = { λ o. out_of o.buf o.at };
 }
 
-// The bytes of a text.
-pub fn text<R: Print>(rt: &R, o: &mut Out, at: usize, s: &[u8]) -> usize
-    ensures { Prints o.old at o.new result s.now }
-{
-    let n = s.len();
-    let mut a = at;
-    let mut i = 0;
-    while i < n {
-        a = put(rt, o, a, s[i]);
-        i += 1;
+impl<W: Write> Out<W> {
+    pub fn new(to: W) -> Self
+        ensures { result ≡ out_of (replicate 65536 0) 0 }
+    {
+        Out {
+            to,
+            buf: [0; 65536],
+            at: 0,
+        }
     }
-    a
-}
 
-// What the buffer still holds, at the end.
-pub fn finish<R: Print>(rt: &R, o: &Out, at: usize) {
-    flush(rt, o, at);
+    // What waits, written out. Whether that succeeds changes nothing here.
+    fn flush(&mut self)
+        ensures { self.new ≡ self.old }
+    {
+        if self.at <= self.buf.len() {
+            let _ = self.to.write_all(&self.buf[..self.at]);
+        }
+    }
+
+    // One byte.
+    #[tactic(auto, unfolding(crate::specs::Out::put_of, crate::specs::Out::laid_of))]
+    pub fn put(&mut self, b: u8)
+        ensures { Prints self.old self.new (b ∷ []) }
+    {
+        if self.buf.len() <= self.at {
+            self.flush();
+            self.at = 0;
+        }
+        self.buf[self.at] = b;
+        self.at += 1;
+    }
+
+    // The bytes of a text.
+    #[tactic(auto, using(crate::proofs::Laws::laid_next), unfolding(crate::specs::Out::laid_of))]
+    pub fn text(&mut self, s: &[u8])
+        ensures { Prints self.old self.new s.now }
+    {
+        for b in s {
+            self.put(*b);
+        }
+    }
+
+    // What still waits, written out at the end.
+    pub fn finish(&mut self)
+        ensures { self.new ≡ self.old }
+    {
+        self.flush();
+    }
 }

@@ -1,116 +1,104 @@
 // A session's standing: its state's name, and its station.
 ghost use Rattle.std.specs.Prelude.{◌≡◌};
 ghost use Rattle.replay_print.specs.Out.{Prints};
-ghost use Rattle.replay_print.specs.Standings.{state_number, state_name, standing_of, idle_standing};
-ghost use Rattle.replay_print.specs.Standings.{same_standing, station_text, standing_line, changed_text};
+ghost use Rattle.replay_print.specs.Standings.{name_text, standing_of, same_standing};
+ghost use Rattle.replay_print.specs.Standings.{standing_text, standing_line, changed_text};
 
 use crate::out::Out;
-use crate::{numerals, out};
 use session_states::states::State;
-use std::io::Print;
+use std::io::Write;
 
-// A session's state and station, as they are printed. Idle is 0, and has no station.
-#[derive(Clone, Copy)]
-pub struct Standing {
-    pub state: u8,
-    pub station: u8,
+// The names of the states that have a station.
+#[derive(Clone, Copy, PartialEq, Eq)]
+pub enum Name {
+    Offered,
+    Unverified,
+    Parameters,
+    Ready,
+    Charging,
+    Stopping,
+    Error,
 }
 
-fn code(state: State) -> u8
-    ensures { result ≡ state_number state }
-{
-    match state {
-        State::Idle => 0,
-        State::Offered => 1,
-        State::Unverified => 2,
-        State::Parameters => 3,
-        State::Ready {
-            accepted: _,
-            maximum: _,
-        } => 4,
-        State::Charging(_) => 5,
-        State::Stopping {
-            acknowledged: _,
-            est: _,
-        } => 6,
-        State::Error => 7,
-    }
+// A session's state and station, as they are printed.
+#[derive(Clone, Copy, PartialEq, Eq)]
+pub enum Standing {
+    Idle,
+    In(Name, u8),
 }
 
-fn name<R: Print>(rt: &R, o: &mut Out, at: usize, code: u8) -> usize
-    ensures { Prints o.old at o.new result (state_name code) }
-{
-    match code {
-        0 => out::text(rt, o, at, b"Idle"),
-        1 => out::text(rt, o, at, b"Offered"),
-        2 => out::text(rt, o, at, b"Unverified"),
-        3 => out::text(rt, o, at, b"Parameters"),
-        4 => out::text(rt, o, at, b"Ready"),
-        5 => out::text(rt, o, at, b"Charging"),
-        6 => out::text(rt, o, at, b"Stopping"),
-        _ => out::text(rt, o, at, b"Error"),
+impl Name {
+    fn text(self) -> &'static [u8]
+        ensures { result.now ≡ name_text self }
+    {
+        match self {
+            Name::Offered => b"Offered",
+            Name::Unverified => b"Unverified",
+            Name::Parameters => b"Parameters",
+            Name::Ready => b"Ready",
+            Name::Charging => b"Charging",
+            Name::Stopping => b"Stopping",
+            Name::Error => b"Error",
+        }
     }
 }
 
 impl Standing {
-    // As it is before there is a controller.
-    #[tactic(auto, unfolding(crate::specs::Standings::idle_standing))]
-    pub fn idle() -> Standing
-        ensures { result ≡ idle_standing }
-    {
-        Standing {
-            state: 0,
-            station: 0,
-        }
-    }
-
     #[tactic(auto, unfolding(crate::specs::Standings::standing_of))]
     pub fn of(state: State, station: u8) -> Standing
         ensures { result ≡ standing_of state station }
     {
-        Standing {
-            state: code(state),
-            station: station,
-        }
+        let name = match state {
+            State::Idle => return Standing::Idle,
+            State::Offered => Name::Offered,
+            State::Unverified => Name::Unverified,
+            State::Parameters => Name::Parameters,
+            State::Ready { .. } => Name::Ready,
+            State::Charging(_) => Name::Charging,
+            State::Stopping { .. } => Name::Stopping,
+            State::Error => Name::Error,
+        };
+        Standing::In(name, station)
     }
 
+    // Whether it need not be printed after another.
     #[tactic(auto, unfolding(crate::specs::Standings::same_standing))]
     fn same(self, other: Standing) -> bool
         ensures { result ≡ same_standing self other }
     {
-        (self.state == other.state) & ((self.state == 0) | (self.station == other.station))
+        self == other
     }
 
-    // The station, unless the state is Idle.
-    #[tactic(auto, unfolding(crate::specs::Standings::station_text))]
-    fn station<R: Print>(self, rt: &R, o: &mut Out, at: usize) -> usize
-        ensures { Prints o.old at o.new result (station_text self) }
+    // The state's name and, unless it is Idle, the station.
+    #[tactic(auto, unfolding(crate::specs::Standings::standing_text))]
+    fn print<W: Write>(self, o: &mut Out<W>)
+        ensures { Prints o.old o.new (standing_text self) }
     {
-        if self.state == 0 {
-            return at;
+        match self {
+            Standing::Idle => o.text(b"Idle"),
+            Standing::In(name, station) => {
+                o.text(name.text());
+                o.put(b' ');
+                o.byte(station);
+            }
         }
-        let a = out::put(rt, o, at, b' ');
-        numerals::byte(rt, o, a, self.station)
     }
 
-    fn line<R: Print>(self, rt: &R, o: &mut Out, at: usize) -> usize
-        ensures { Prints o.old at o.new result (standing_line self) }
+    fn line<W: Write>(self, o: &mut Out<W>)
+        ensures { Prints o.old o.new (standing_line self) }
     {
-        let mut a = out::text(rt, o, at, b"state ");
-        a = name(rt, o, a, self.state);
-        a = self.station(rt, o, a);
-        out::put(rt, o, a, b'\n')
+        o.text(b"state ");
+        self.print(o);
+        o.put(b'\n');
     }
 
     // The line of a standing, where it is not what it was before.
-    #[tactic(auto, using(crate::proofs::Laws::prints_none), unfolding(crate::specs::Standings::changed_text))]
-    pub fn changed<R: Print>(self, rt: &R, o: &mut Out, at: usize, before: Standing) -> usize
-        ensures { Prints o.old at o.new result (changed_text self before) }
+    #[tactic(auto, unfolding(crate::specs::Standings::changed_text, crate::specs::Out::laid_of))]
+    pub fn changed<W: Write>(self, o: &mut Out<W>, before: Standing)
+        ensures { Prints o.old o.new (changed_text self before) }
     {
-        if self.same(before) {
-            at
-        } else {
-            self.line(rt, o, at)
+        if !self.same(before) {
+            self.line(o);
         }
     }
 }

@@ -6,4 +6,4 @@ use Rattle.replay_print.proofs.answers.numbered.Goals as goal
 pub returns : goal.returns
 unfolding numbered_line
 returns g c =
-    prints_then c.text-a.ensures (prints_then (prints_eq c.decimal-b.ensures (padded_one _)) c.put.ensures)
+    prints_then c.text.ensures (prints_then (prints_eq c.decimal.ensures (padded_one _)) c.put.ensures)

@@ -6,8 +6,8 @@ use Rattle.replay_print.proofs.answers.write.Goals as goal
 pub returns : goal.returns
 unfolding write_line
 returns g c =
-    prints_then c.text-a.ensures
-    (prints_then (prints_eq c.decimal-a.ensures (padded_one _))
-    (prints_then c.put-a.ensures
-    (prints_then (prints_eq c.decimal-a-2.ensures (padded_one _))
-    (prints_then c.put-a-2.ensures (prints_then c.written-a.ensures c.put.ensures)))))
+    prints_then c.text.ensures
+    (prints_then (prints_eq c.decimal.ensures (padded_one _))
+    (prints_then c.put.ensures
+    (prints_then (prints_eq c.decimal-2.ensures (padded_one _))
+    (prints_then c.put-2.ensures (prints_then c.written.ensures c.put-3.ensures)))))

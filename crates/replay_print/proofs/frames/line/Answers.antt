@@ -5,4 +5,4 @@ use Rattle.replay_print.proofs.frames.line.Goals as goal
 pub returns : goal.returns
 unfolding sent_line
 returns g c =
-    prints_then c.time-a.ensures (prints_then c.text-a.ensures (prints_then c.frame-a.ensures c.put.ensures))
+    prints_then c.time.ensures (prints_then c.text.ensures (prints_then c.frame.ensures c.put.ensures))

@@ -5,6 +5,6 @@ use Rattle.replay_print.proofs.frames.time.Goals as goal
 pub returns : goal.returns
 unfolding time_text
 returns g c =
-    prints_then c.put-a.ensures
-    (prints_then c.decimal-a.ensures
-    (prints_then c.put-a-2.ensures (prints_then c.decimal-a-2.ensures c.put.ensures)))
+    prints_then c.put.ensures
+    (prints_then c.decimal.ensures
+    (prints_then c.put-2.ensures (prints_then c.decimal-2.ensures c.put-3.ensures)))

@@ -1,9 +1,8 @@
-use Rattle.replay_host.specs.Lines.{world_of}
+use Rattle.std.proofs.Common.{refl}
 use Rattle.replay_host.proofs.Carrying.{carries}
 use Rattle.replay_host.proofs.lines.Run.carry_out.Goals as goal
 
 pub returns : goal.returns
 returns g c =
-    let w = world_of c.args.self c.args.bytes.now c.args.v.now c.args.t.now c.args.buf.now in
-    carries c.args.asked w _ _ _ _ (c.calls.ensures.comes, c.calls.ensures.buf_after) c.after.ensures
-    c.clock_after.ensures
+    carries c.args.asked c.args.self.now c.calls.new.self c.calls.new.self.host _ c.calls.ensures.rest
+    c.calls.ensures.comes refl c.after-self.ensures c.clock_after-self.ensures

@@ -5,4 +5,4 @@ use Rattle.replay_print.proofs.standings.Standing.line.Goals as goal
 pub returns : goal.returns
 unfolding standing_line
 returns g c =
-    prints_then c.text-a.ensures (prints_then c.name-a.ensures (prints_then c.station-a.ensures c.put.ensures))
+    prints_then c.text.ensures (prints_then c.print.ensures c.put.ensures)

@@ -1,0 +1,7 @@
+-- So many bytes of the text are printed.
+use Rattle.std.proofs.Common.{take}
+use Rattle.replay_print.specs.Out.{Prints}
+use Rattle.replay_print.proofs.out.Out.text.Given as goal
+
+abbrev pub invariant-loop-b : goal.invariant-loop-b
+invariant-loop-b g l = Prints l.fn.self l.self (take l.b-index l.s)
