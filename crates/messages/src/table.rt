@@ -3,7 +3,8 @@ ghost use Rattle.std.specs.Prelude.{◌≡◌};
 ghost use Rattle.messages.specs.Table.{pf_of, priority_of, length_of, broadcast_ps};
 
 // A message: PF, priority, length (of a received one the least), and the PS of a broadcast (0 where PS is the target).
-// One line a message is what makes the table one to read, so a row has places and not names; the methods name them.
+// One line a message is what makes the table one to read, so a row has places and not names, and stays no plainer with
+// fields, which take six lines; the methods name them.
 #[derive(Clone, Copy, Debug, PartialEq, Eq)]
 pub struct Row(pub u8, pub u8, pub u8, pub u8);
 

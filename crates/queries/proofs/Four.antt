@@ -1,12 +1,13 @@
 -- The list that the four places stand for, by how many are waiting: none, one, two, three, or all four. Assumes
 -- nothing.
+use Rattle.std.proofs.Common.{min}
+use Rattle.std.proofs.Math.Nat.{min-eq_right}
 use Prim.Native.Nat.{ℕ, zero, suc, ◌-◌, ◌≤◌, ◌<◌}
 use mathlib.Core.Path.{◌≡◌, refl, ◌∙◌, ap}
-use mathlib.Core.Bool.{false, cond}
 use mathlib.Core.List.{List, [], ◌∷◌, ◌++◌}
 use native.Mathlib.Omega.{arith}
-use borrow.Author.Tests.{le-ltb, le-leb}
-use lib.Dec.{ltb, leb}
+use borrow.Author.Tests.{le-leb}
+use lib.Dec.{leb}
 use lib.ListN.{length, take, drop}
 use lib.Seq.{take-nil}
 use Rattle.queries.specs.declared.Query.{Query}
@@ -15,8 +16,8 @@ use Rattle.queries.specs.Waiting.{most_waiting, waiting, queries_of}
 
 -- four or more are said to wait
 module _ (n : ℕ) where
-  no_more : ltb (suc (suc (suc (suc n)))) 4 ≡ false
-  no_more = le-ltb (suc (suc (suc (suc n)))) 4 (omega arith)
+  no_more : min (suc (suc (suc (suc n)))) 4 ≡ 4
+  no_more = min-eq_right (omega arith)
 
 module _ (a b c d : Query) where
   abbrev four : List Query
@@ -24,7 +25,7 @@ module _ (a b c d : Query) where
 
   -- the first n of four without the oldest
   pub left_is :
-      (n m : ℕ) → m ≡ cond (ltb n most_waiting) n most_waiting → 0 < m
+      (n m : ℕ) → m ≡ min n most_waiting → 0 < m
       → take (m - 1) (b ∷ c ∷ d ∷ d ∷ []) ≡ drop 1 (take n four)
   left_is zero m e h = absurd (omega (arith, e))
   left_is (suc zero) m e h = rw e
@@ -32,7 +33,7 @@ module _ (a b c d : Query) where
   left_is (suc (suc (suc zero))) m e h = rw e
   left_is (suc (suc (suc (suc n)))) m e h = rw (e, no_more n, take-nil {A = Query} n)
 
-  pub none_left : (n m : ℕ) → m ≡ cond (ltb n most_waiting) n most_waiting → m ≤ 0 → [] ≡ drop 1 (take n four)
+  pub none_left : (n m : ℕ) → m ≡ min n most_waiting → m ≤ 0 → [] ≡ drop 1 (take n four)
   none_left zero m e h = refl
   none_left (suc zero) m e h = absurd (omega (arith, e))
   none_left (suc (suc zero)) m e h = absurd (omega (arith, e))
@@ -64,7 +65,7 @@ three_left n h a b c = omega arith
 module _ (q r : Queries) where
   pub left_places :
       (m : ℕ)
-      → m ≡ cond (ltb q.count most_waiting) q.count most_waiting
+      → m ≡ min q.count most_waiting
       → 0 < m
       → r ≡ queries_of (take (m - 1) (q.second ∷ q.third ∷ q.fourth ∷ q.fourth ∷ []))
       → r ≡ queries_of (drop 1 (waiting q))
@@ -73,7 +74,7 @@ module _ (q r : Queries) where
       p ∙ ap queries_of (left_is q.first q.second q.third q.fourth q.count m e h)
 
   pub none_places :
-      (m : ℕ) → m ≡ cond (ltb q.count most_waiting) q.count most_waiting → m ≤ 0 → r ≡ queries_of []
+      (m : ℕ) → m ≡ min q.count most_waiting → m ≤ 0 → r ≡ queries_of []
       → r ≡ queries_of (drop 1 (waiting q))
   unfolding waiting
   none_places m e h p =

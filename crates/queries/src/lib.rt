@@ -17,7 +17,9 @@ pub struct Query {
     pub group: u8,
 }
 
-// The waiting queries, the oldest first: the first `count` of the four places.
+// The waiting queries, the oldest first: the first `count` of the four places. They stay fields with a count that may be
+// any byte: the entry points promise of any controller, also of one whose count is above four (`FrameIs`, `TickIs`), and
+// in the theorems over any controller an array would be a list of any length.
 #[derive(Clone, Copy)]
 pub struct Queries {
     pub count: u8,

@@ -1,6 +1,6 @@
 // The four places and the list that they stand for. A place past the last query is blank, so that the list says all
 // that there is.
-ghost use Rattle.std.specs.Prelude.{◌≡◌, cond, [], ◌∷◌, ◌++◌, ◌-◌, ◌+◌, ◌<◌, ltb, take, drop};
+ghost use Rattle.std.specs.Prelude.{◌≡◌, cond, [], ◌∷◌, ◌++◌, ◌-◌, ◌+◌, ◌<◌, take, drop};
 ghost use Rattle.queries.specs.Waiting.{most_waiting, no_query, waiting, queries_of};
 ghost use Rattle.queries.specs.Answering.{next_group};
 
@@ -10,25 +10,18 @@ use messages::received::Kind;
 // The most queries that wait at a time.
 pub const MOST: u8 = 4;
 
+// A blank place.
+const BLANK: Query = Query {
+    source: 0,
+    kind: Kind::Voltages,
+    group: 0,
+};
+
 // A place: the query where one is waiting there, else blank.
 fn place(waits: bool, q: Query) -> Query
     ensures { result ≡ cond waits q no_query }
 {
-    if waits {
-        q
-    } else {
-        Query {
-            source: 0,
-            kind: Kind::Voltages,
-            group: 0,
-        }
-    }
-}
-
-fn at_most(n: u8, most: u8) -> u8
-    ensures { result ≡ cond (ltb n most) n most }
-{
-    if n < most { n } else { most }
+    if waits { q } else { BLANK }
 }
 
 // The first `count` of four queries.
@@ -37,7 +30,7 @@ fn first_of(count: u8, a: Query, b: Query, c: Query, d: Query) -> Queries
     ensures { result ≡ queries_of (take count (a ∷ b ∷ c ∷ d ∷ [])) }
 {
     Queries {
-        count: at_most(count, MOST),
+        count: count.min(MOST),
         first: place(0 < count, a),
         second: place(1 < count, b),
         third: place(2 < count, c),
@@ -50,12 +43,7 @@ impl Queries {
     pub fn none() -> Queries
         ensures { result ≡ queries_of [] }
     {
-        let blank = Query {
-            source: 0,
-            kind: Kind::Voltages,
-            group: 0,
-        };
-        first_of(0, blank, blank, blank, blank)
+        first_of(0, BLANK, BLANK, BLANK, BLANK)
     }
 
     // One more, behind all others.
@@ -79,7 +67,7 @@ impl Queries {
     pub fn left(self) -> Queries
         ensures { result ≡ queries_of (drop 1 (waiting self)) }
     {
-        let n = at_most(self.count, MOST);
+        let n = self.count.min(MOST);
         let d = self.fourth;
         if 0 < n {
             first_of(n - 1, self.second, self.third, d, d)
@@ -93,12 +81,9 @@ impl Queries {
         requires { (0 < self.count) × (self.first.group < 255) }
         ensures { result ≡ queries_of (next_group self.first ∷ drop 1 (waiting self)) }
     {
-        let a = self.first;
-        let kind = a.kind;
         let next = Query {
-            source: a.source,
-            kind,
-            group: a.group + 1,
+            group: self.first.group + 1,
+            ..self.first
         };
         first_of(self.count, next, self.second, self.third, self.fourth)
     }

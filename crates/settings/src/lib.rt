@@ -9,7 +9,8 @@ pub mod range;
 pub mod read;
 pub mod write;
 
-// The stations of the list: the first `count` of the four places.
+// The stations of the list: the first `count` of the four places. They stay fields, since in a theorem over any settings
+// (`read_after_write`) an array would be a list of any length.
 #[derive(Clone, Copy)]
 pub struct Stations {
     pub count: u16,
@@ -19,6 +20,7 @@ pub struct Stations {
     pub fourth: u8,
 }
 
+// The five version bytes. They stay fields, as the stations do (`length_record`).
 #[derive(Clone, Copy)]
 pub struct Versions {
     pub first: u8,
