@@ -10,7 +10,7 @@ use Rattle.std.proofs.Common.{None, Some}
 use lib.IntN.{ℤ}
 use lib.ListN.{length, drop}
 use Rattle.frames.specs.declared.Frame.{Frame}
-use Rattle.cells.specs.Tables.{tables_fit}
+use Rattle.cells.specs.Tables.{most_cells, tables_fit}
 use Rattle.cells.proofs.Bounds.{fit}
 use Rattle.messages.specs.declared.received.Kind.{Kind}
 use Rattle.messages.specs.declared.received.Kind.TheVariants.{Voltages, Temperatures}
@@ -153,6 +153,11 @@ module _ (q : Queries) (own : ℕ) (v : List ℕ) (t : List ℤ) where
                 e ∙ sym (ap queries_of (more_later own v t q.first w (drop 1 w) (oldest q some) h k));
             frames = sends;
           }
+
+-- a group whose next one begins within a table has a number that a byte can grow from
+pub group_within : (kind : Kind) (group m n : ℕ) → m ≡ (group + 1) * per_group kind → m < n → n ≤ most_cells → group < 255
+group_within Voltages group m n e h k = omega arith
+group_within Temperatures group m n e h k = omega arith
 
 pub some_wait : (n : ℕ) → (n ≡ 0 → ⊥) → 0 < n
 some_wait n h = omega (arith, h)
