@@ -48,26 +48,12 @@ fn group_frame(q: Query, own: u8, tables: &Tables) -> Frame
     requires { q.group * per_group q.kind < most_cells }
     ensures { result ≡ group_frame own tables.now.volts.now tables.now.heat.now q }
 {
-    let kind = q.kind;
-    let row = row_of(kind, q.group);
-    match kind {
-        Kind::Voltages => {
-            Frame::new(
-                row,
-                q.source,
-                own,
-                groups::voltage_group(tables.volts, q.group),
-            )
-        }
-        Kind::Temperatures => {
-            Frame::new(
-                row,
-                q.source,
-                own,
-                groups::temperature_group(tables.heat, q.group),
-            )
-        }
-    }
+    let row = row_of(q.kind, q.group);
+    let bytes = match q.kind {
+        Kind::Voltages => groups::voltage_group(tables.volts, q.group),
+        Kind::Temperatures => groups::temperature_group(tables.heat, q.group),
+    };
+    Frame::new(row, q.source, own, bytes)
 }
 
 impl Queries {
