@@ -10,6 +10,7 @@ pub const VOLTAGES: usize = 4;
 
 pub const TEMPERATURES: usize = 8;
 
+// Stays two: a voltage takes two bytes and a temperature one, so that the two groups have no line in common.
 pub fn voltage_group(v: &[u16], group: u8) -> [u8; 8]
     ensures { result ≡ voltage_group v.now group }
 {

@@ -12,6 +12,8 @@ pub fn as_sent(t: i16) -> SentDegrees
     SentDegrees(t.abs_diff(-50))
 }
 
+// Stays three: each is a rule of its own, which may move alone, and one function for all would say at no call which
+// rule it is.
 pub fn temperature_byte(t: SentDegrees) -> u8
     ensures { result ≡ temperature_byte t.0 }
 {
