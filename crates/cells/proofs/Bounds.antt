@@ -15,8 +15,9 @@ use Rattle.cells.specs.Tables.{most_cells, most_voltage, tables_fit, every, volt
 use Rattle.cells.specs.Sent.{as_sent, most_sent, sent_temperatures}
 use Rattle.cells.specs.Summaries.{sum_of, highest_of, lowest_of, summary_of, cells_of}
 use Rattle.cells.specs.InnerBounds.{Bounded, BoundedCells}
-use Rattle.buffers.proofs.Tests.{and_left, and_right}
-use Rattle.cells.proofs.Every.{every_at, at_map}
+use Rattle.std.proofs.lemmas.Bool.{and_parts}
+use Rattle.std.proofs.lemmas.List.{get_or-map}
+use Rattle.cells.proofs.Every.{every_at}
 use Rattle.cells.proofs.SentTemperatures.{sent}
 use Rattle.cells.proofs.Extremes.{In, highest_in, lowest_in, highest_first, lowest_first}
 
@@ -31,19 +32,19 @@ fit v t h =
     let a = eqb (length v) (length t) in
     let b = leb 1 (length v) in
     let d = leb (length v) most_cells in
-    let r = and_right a (b && d) h in
+    let r = (and_parts a (b && d) h).1 in
     record {
-      same = eqb-true (length v) (length t) (and_left a (b && d) h);
-      some = leb-true 1 (length v) (and_left b d r);
-      most = leb-true (length v) most_cells (and_right b d r);
+      same = eqb-true (length v) (length t) (and_parts a (b && d) h).0;
+      some = leb-true 1 (length v) (and_parts b d r).0;
+      most = leb-true (length v) most_cells (and_parts b d r).1;
     }
 
 -- what 15 says where it is not given
 pub voltages_good : (v : List ℕ) (t : List ℤ) → cells_in_range v t ≡ true → every voltage_ok v ≡ true
-voltages_good v t h = and_left (every voltage_ok v) (every temperature_ok t) h
+voltages_good v t h = (and_parts (every voltage_ok v) (every temperature_ok t) h).0
 
 pub temperatures_good : (v : List ℕ) (t : List ℤ) → cells_in_range v t ≡ true → every temperature_ok t ≡ true
-temperatures_good v t h = and_right (every voltage_ok v) (every temperature_ok t) h
+temperatures_good v t h = (and_parts (every voltage_ok v) (every temperature_ok t) h).1
 
 -- no value of a table is above `most`
 abbrev AtMost : ℕ → List ℕ → Type 0
@@ -80,7 +81,7 @@ voltages_at_most v h i l = leb-true (get_or v i 0) most_voltage (every_at voltag
 temperatures_at_most : (t : List ℤ) → every temperature_ok t ≡ true → AtMost most_sent (sent_temperatures t)
 temperatures_at_most t h i l =
     let k : i < length t = omega (arith, length-map t as_sent) in
-    rw (at_map as_sent (pos 0) t i k) (sent (get_or t i (pos 0)) (every_at temperature_ok (pos 0) t i h k)).small
+    rw (get_or-map as_sent t i (pos 0) 0 k) (sent (get_or t i (pos 0)) (every_at temperature_ok (pos 0) t i h k)).small
 
 -- the summaries of tables that are accepted
 pub cells_bounded :

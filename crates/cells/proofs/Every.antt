@@ -6,7 +6,7 @@ use mathlib.Core.Bool.{Bool, true, ◌&&◌, and-true, and_assoc}
 use native.Mathlib.Numerals.{add-one}
 use native.Mathlib.Nat.{le_of_suc-le-suc, not-suc-le-zero}
 use lib.ListN.{length, get_or, take}
-use Rattle.buffers.proofs.Tests.{and_left, and_right}
+use Rattle.std.proofs.lemmas.List.Recursion.{and_at}
 use Rattle.cells.specs.Tables.{every}
 
 -- a turn of a walk: one cell more
@@ -20,16 +20,8 @@ every_more f (x ∷ xs) (suc i) d h =
     (ap (λ b. f x && b) (rw add-one at (every_more f xs i d (le_of_suc-le-suc h)))
     ∙ sym (and_assoc (f x) (every f (take i xs)) (f (get_or xs i d))))
 
-pub every_at {ℓ} :
-    {A : Type ℓ} (f : A → Bool) (d : A) (xs : List A) (i : ℕ) → every f xs ≡ true → i < length xs
+-- and what it says of each cell
+pub every_at : {A : Type 0} (f : A → Bool) (d : A) (xs : List A) (i : ℕ) → every f xs ≡ true → i < length xs
     → f (get_or xs i d) ≡ true
 unfolding every
-every_at f d [] i t h = absurd (not-suc-le-zero h)
-every_at f d (x ∷ xs) zero t h = and_left (f x) (every f xs) t
-every_at f d (x ∷ xs) (suc i) t h = every_at f d xs i (and_right (f x) (every f xs) t) (le_of_suc-le-suc h)
-
-pub at_map {ℓ} :
-    {A : Type ℓ} (f : A → ℕ) (d : A) (xs : List A) (i : ℕ) → i < length xs → get_or (map f xs) i 0 ≡ f (get_or xs i d)
-at_map f d [] i h = absurd (not-suc-le-zero h)
-at_map f d (x ∷ xs) zero h = refl
-at_map f d (x ∷ xs) (suc i) h = at_map f d xs i (le_of_suc-le-suc h)
+every_at f d xs i t h = and_at (every f) f refl (λ _ _. refl) xs i d h t

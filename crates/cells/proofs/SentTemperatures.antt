@@ -8,7 +8,7 @@ use lib.Dec.{leb}
 use lib.IntN.{ℤ, pos, negsuc, ◌+ℤ◌}
 use Rattle.cells.specs.Tables.{temperature_ok}
 use Rattle.cells.specs.Sent.{as_sent, most_sent}
-use Rattle.buffers.proofs.Tests.{and_left}
+use Rattle.std.proofs.lemmas.Bool.{and_parts}
 
 -- a temperature in range is sent as F + 50, which is at most 255
 pub record Sent (t : ℤ) : Type 0 where
@@ -18,7 +18,7 @@ pub record Sent (t : ℤ) : Type 0 where
 pub sent : (t : ℤ) → temperature_ok t ≡ true → Sent t
 sent (pos n) h = let k = leb-true n 205 h in record { small = omega arith; shifted = refl }
 sent (negsuc n) h =
-    let k = leb-true n 49 (and_left (leb n 49) true h) in
+    let k = leb-true n 49 (and_parts (leb n 49) true h).0 in
     let l = le-ltb 50 (suc n) (omega arith) in
     record { small = rw l (omega arith); shifted = rw l }
 

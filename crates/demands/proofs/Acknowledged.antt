@@ -6,7 +6,7 @@ use mathlib.Core.Bool.{Bool, true, false, ◌&&◌, false≢true}
 use mathlib.Core.List.{List, [], ◌∷◌, ◌++◌}
 use lib.Dec.{ltb}
 use lib.IntN.{pos}
-use Rattle.buffers.proofs.Tests.{and_left, and_right}
+use Rattle.std.proofs.lemmas.Bool.{and_parts}
 use Rattle.settings.specs.declared.Settings.{Settings}
 use Rattle.readings.specs.declared.Readings.{Readings}
 use Rattle.readings.specs.Readings.{wanted_of, readings_in_range, current_ok}
@@ -66,7 +66,7 @@ all_keep_lem : (ks : List Call) (c : Controller) → all_keep ks ≡ true → (a
 unfolding all_keep after_all
 all_keep_lem [] c h = refl
 all_keep_lem (k ∷ ks) c h =
-    all_keep_lem ks (after c k) (and_right (keeps k) (all_keep ks) h) ∙ one_keeps c k (and_left (keeps k) (all_keep ks) h)
+    all_keep_lem ks (after c k) (and_parts (keeps k) (all_keep ks) h).1 ∙ one_keeps c k (and_parts (keeps k) (all_keep ks) h).0
 
 one_more : (ks : List Call) (c : Controller) (k : Call) → after_all c (ks ++ (k ∷ [])) ≡ after (after_all c ks) k
 unfolding after_all

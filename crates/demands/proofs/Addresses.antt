@@ -11,7 +11,7 @@ use borrow.Author.Tests.{leb-true}
 use lib.Dec.{eqb, leb}
 use lib.IntN.{ℤ}
 use lib.ListN.{length}
-use Rattle.buffers.proofs.Tests.{and_left, and_right}
+use Rattle.std.proofs.lemmas.Bool.{and_parts}
 use Rattle.messages.specs.Identifier.{parts_of}
 use Rattle.readings.specs.declared.Readings.{Readings}
 use Rattle.cells.specs.declared.Cells.{Cells}
@@ -159,7 +159,7 @@ fresh_bytes : (x : Settings) → in_range x ≡ true → Bytes (fresh_of x)
 unfolding fresh_of in_range within Below waiting queries_of
 fresh_bytes x h =
     record {
-      own = omega (arith, leb-true x.own last_address (and_right (leb 0 x.own) _ (and_left (leb 0 x.own && leb x.own last_address) _ h)));
+      own = omega (arith, leb-true x.own last_address (and_parts (leb 0 x.own) _ (and_parts (leb 0 x.own && leb x.own last_address) _ h).0).1);
       station = omega arith;
       sources = none;
     }

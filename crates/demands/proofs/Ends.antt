@@ -9,7 +9,7 @@ use mathlib.Core.Path.{◌≡◌, refl, sym, ap, subst, ◌∙◌}
 use mathlib.Core.Bool.{Bool, true, false, not, ◌&&◌, false≢true}
 use mathlib.Core.List.{List}
 use lib.Dec.{ltb}
-use Rattle.buffers.proofs.Tests.{and_left, and_right}
+use Rattle.std.proofs.lemmas.Bool.{and_parts}
 use Rattle.messages.specs.Identifier.{parts_of}
 use Rattle.settings.specs.declared.Settings.{Settings}
 use Rattle.settings.specs.Read.{read_of}
@@ -99,7 +99,7 @@ module _ (c : Controller) (id : ℕ) (s : List ℕ) where
   ended_by (Crm v) h e = absurd (false≢true e)
   ended_by (Ccs v) h e = absurd (false≢true e)
   ended_by (Cst true) h e =
-      ByCst h (and_left (is_stopping c.session.state) gone_by_count e) (and_right (is_stopping c.session.state) gone_by_count e)
+      ByCst h (and_parts (is_stopping c.session.state) gone_by_count e).0 (and_parts (is_stopping c.session.state) gone_by_count e).1
   ended_by (Cst false) h e = absurd (false≢true e)
   ended_by Cem h e = ByCem h
 
@@ -174,8 +174,8 @@ module _ (c : Controller) where
   ended_call (Receive id s) h e = ended_came c id s (frame_to c id s) (came c id s) h e
   ended_call (Tick r v t old) h e =
       let w = sym (which_tick_ends_a_session c r v t old h) ∙ e in
-      ByTick (and_left (accepts r v t old) (ends_for (why_of c.settings r (cells_of v t) c.session)) w)
-      (and_right (accepts r v t old) (ends_for (why_of c.settings r (cells_of v t) c.session)) w)
+      ByTick (and_parts (accepts r v t old) (ends_for (why_of c.settings r (cells_of v t) c.session)) w).0
+      (and_parts (accepts r v t old) (ends_for (why_of c.settings r (cells_of v t) c.session)) w).1
   ended_call (Write old) h e = absurd (false≢true (sym h ∙ e))
   ended_call (Read s) h e = ByReading (sym (read_idle (read_of s) c h) ∙ e)
 
@@ -194,8 +194,8 @@ module _ (c : Controller) where
   what_ends_a_charge (Receive id s) h e = stopped_came c id s (frame_to c id s) (came c id s) h e
   what_ends_a_charge (Tick r v t old) h e =
       let w = not_true (accepts r v t old && leaves_for (why_of c.settings r (cells_of v t) c.session)) (sym e ∙ which_tick_ends_a_charge c r v t old h) in
-      AtTick (and_left (accepts r v t old) (leaves_for (why_of c.settings r (cells_of v t) c.session)) w)
-      (and_right (accepts r v t old) (leaves_for (why_of c.settings r (cells_of v t) c.session)) w)
+      AtTick (and_parts (accepts r v t old) (leaves_for (why_of c.settings r (cells_of v t) c.session)) w).0
+      (and_parts (accepts r v t old) (leaves_for (why_of c.settings r (cells_of v t) c.session)) w).1
   what_ends_a_charge (Write old) h e = absurd (false≢true (sym e ∙ h))
   what_ends_a_charge (Read s) h e = AtReading (not_true (is_read (read_of s)) (sym e ∙ read_charging (read_of s) c h))
 

@@ -11,7 +11,7 @@ use mathlib.Core.Bool.{Bool, true, false, cond, ◌&&◌, ◌||◌, false≢true
 use mathlib.Core.List.{List, [], ◌∷◌, ◌++◌}
 use lib.Dec.{eqb}
 use borrow.Author.Tests.{lt-ltb, ltb-true, ltb-false, eq-eqb}
-use Rattle.buffers.proofs.Tests.{and_left, and_right}
+use Rattle.std.proofs.lemmas.Bool.{and_parts}
 use Rattle.messages.specs.declared.table.Row.{Row}
 use Rattle.messages.specs.Table.{EIM, ECP, ERM, EST}
 use Rattle.messages.specs.Identifier.{identifier_of}
@@ -402,4 +402,4 @@ module _ (ks : List Call) (c : Controller) (e : box_at paper_next NoController k
         let y = ready_is st h in
         let n = sym (number_is c id s (Crm b) (ready_open st h) says) ∙ z in
         let both = crm_asks c.settings c.session.count st b y n in
-        sym (erm_told (yes_in st y (and_left y.accepted _ both))) ∙ and_right y.accepted (gone_out 0 c.session.count) both
+        sym (erm_told (yes_in st y (and_parts y.accepted _ both).0)) ∙ (and_parts y.accepted (gone_out 0 c.session.count) both).1

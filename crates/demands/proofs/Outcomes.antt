@@ -5,7 +5,7 @@ use Rattle.std.proofs.Common.{Option, None}
 use mathlib.Core.Path.{◌≡◌, refl}
 use mathlib.Core.Bool.{Bool, true, false, cond, ◌&&◌}
 use lib.Dec.{ltb}
-use Rattle.buffers.proofs.Tests.{and_right}
+use Rattle.std.proofs.lemmas.Bool.{and_parts}
 use Rattle.units.specs.declared.TenthAmps.{TenthAmps}
 use Rattle.settings.specs.declared.Settings.{Settings}
 use Rattle.charge_messages.specs.declared.ChargeMessage.{ChargeMessage}
@@ -76,7 +76,7 @@ module _ (x : Settings) (n : ℕ) where
   outcome_leads (Ready y most) Cim = NotTaken
   outcome_leads (Ready y most) (Cvm v) = NotInStep
   outcome_leads (Ready y most) (Cmp o) = ToReadyAgain
-  outcome_leads (Ready y most) (Crm v) = pick (y && ltb 0 n) _ _ (λ g. pick v _ _ (λ h. ToCharging (and_right y (ltb 0 n) g)) DoesNothing) NotInStep
+  outcome_leads (Ready y most) (Crm v) = pick (y && ltb 0 n) _ _ (λ g. pick v _ _ (λ h. ToCharging (and_parts y (ltb 0 n) g).1) DoesNothing) NotInStep
   outcome_leads (Ready y most) (Ccs v) = NotInStep
   outcome_leads (Ready y most) (Cst v) = ToStopping refl
   outcome_leads (Ready y most) Cem = EndsIt

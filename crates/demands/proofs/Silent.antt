@@ -14,7 +14,7 @@ use mathlib.Core.List.{List, [], ◌∷◌}
 use lib.Dec.{leb}
 use lib.IntN.{ℤ, pos}
 use borrow.Author.Tests.{leb-true, leb-false, lt-leb}
-use Rattle.buffers.proofs.Tests.{and_left, and_right}
+use Rattle.std.proofs.lemmas.Bool.{and_parts}
 use Rattle.settings.specs.declared.Settings.{Settings}
 use Rattle.settings.specs.Read.{read_of}
 use Rattle.controller.specs.Start.{fresh_of}
@@ -269,8 +269,8 @@ still : (st : ℕ) (es : List Call) (c : Controller) → (no_session c ≡ false
 unfolding sends_nothing Silence
 still st [] c k q = tt
 still st (e ∷ es) c k q = λ o. (
-  still_call c e (ap (λ (z : ℕ). quiet_at z e) (k o) ∙ and_left (quiet_at st e) (sends_nothing st es) q),
-  still st es (after c e) (λ p. kept_open c e o p ∙ k o) (and_right (quiet_at st e) (sends_nothing st es) q),
+  still_call c e (ap (λ (z : ℕ). quiet_at z e) (k o) ∙ (and_parts (quiet_at st e) (sends_nothing st es) q).0),
+  still st es (after c e) (λ p. kept_open c e o p ∙ k o) (and_parts (quiet_at st e) (sends_nothing st es) q).1,
 )
 
 -- so what `within_801` says holds of a station that is still, whatever it and others send once the session has ended

@@ -7,7 +7,7 @@ use mathlib.Core.List.{List}
 use lib.Dec.{ltb}
 use lib.IntN.{ℤ}
 use borrow.Author.Tests.{ltb-false}
-use Rattle.buffers.proofs.Tests.{and_right}
+use Rattle.std.proofs.lemmas.Bool.{and_parts}
 use Rattle.readings.specs.declared.Readings.{Readings}
 use Rattle.readings.specs.Readings.{readings_in_range}
 use Rattle.cells.specs.Tables.{tables_fit, cells_in_range}
@@ -32,4 +32,4 @@ fine r v t room e =
     record { fits = h.0; range = h.1; room_enough = ltb-false room tick_room h.2 }
 
 pub fine_cells : {r : Readings} {v : List ℕ} {t : List ℤ} {room : ℕ} → Fine r v t room → cells_in_range v t ≡ true
-fine_cells {r} {v} {t} {room} f = and_right (readings_in_range r) (cells_in_range v t) f.range
+fine_cells {r} {v} {t} {room} f = (and_parts (readings_in_range r) (cells_in_range v t) f.range).1

@@ -20,31 +20,31 @@ use Rattle.settings.specs.Range.{station_list, good_stations, limits_in_range, i
 use Rattle.settings.specs.Record.{field, version_list, record_of}
 use Rattle.settings.specs.Read.{layout_of, settings_of, record_number, read_of}
 use Rattle.settings.specs.Write.{Wrote, write_number, written_of, buffer_after}
-use Rattle.buffers.proofs.Tests.{and_left, and_right}
+use Rattle.std.proofs.lemmas.Bool.{and_parts}
 
 -- ---- ranges
 
 pub within_least : (least most n : ℕ) → within least most n ≡ true → least ≤ n
 unfolding within
-within_least least most n e = leb-true least n (and_left (leb least n) (leb n most) e)
+within_least least most n e = leb-true least n (and_parts (leb least n) (leb n most) e).0
 
 pub within_most : (least most n : ℕ) → within least most n ≡ true → n ≤ most
 unfolding within
-within_most least most n e = leb-true n most (and_right (leb least n) (leb n most) e)
+within_most least most n e = leb-true n most (and_parts (leb least n) (leb n most) e).1
 
 -- settings in range have good stations
 range_stations : (x : Settings) → in_range x ≡ true → good_stations x.own x.stations ≡ true
 unfolding in_range
 range_stations x e =
-    and_right (limits_in_range x.limits) (good_stations x.own x.stations)
-    (and_right (within 0 last_address x.own) _ e)
+    (and_parts (limits_in_range x.limits) (good_stations x.own x.stations)
+    (and_parts (within 0 last_address x.own) _ e).1).1
 
 range_count : (x : Settings) → in_range x ≡ true → within least_stations most_stations x.stations.count ≡ true
 unfolding good_stations
 range_count x e =
     let s = x.stations in
-    and_left (within least_stations most_stations s.count)
-    (distinct (station_list s) && each_good x.own (station_list s)) (range_stations x e)
+    (and_parts (within least_stations most_stations s.count)
+    (distinct (station_list s) && each_good x.own (station_list s)) (range_stations x e)).0
 
 pub range_some : (x : Settings) → in_range x ≡ true → 1 ≤ x.stations.count
 range_some x e = within_least least_stations most_stations x.stations.count (range_count x e)

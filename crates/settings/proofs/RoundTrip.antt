@@ -21,7 +21,7 @@ use Rattle.settings.specs.Record.{field, version_list, record_of}
 use Rattle.settings.specs.Read.{head_at, layout_of, station_at, stations_at, versions_at, limits_of, settings_of, read_of}
 use Rattle.settings.specs.Tidy.{with_stations, tidy, tidy_stations, Bytes}
 use Rattle.settings.specs.Write.{Written, Wrote, write_number, written_of, buffer_after}
-use Rattle.buffers.proofs.Tests.{and_left, and_right}
+use Rattle.std.proofs.lemmas.Bool.{and_parts}
 use Rattle.settings.proofs.Laws.{range_some, range_four, within_least, within_most, read_0}
 
 -- what holds at 1, 2, 3 and 4 holds at each n from 1 to 4
@@ -161,8 +161,8 @@ module _ (s : List ℕ) (bytes : Bytes s) where
   unfolding Bytes elems head_at
   field_elems at tag k h =
       let w = word_at s (at + 1) in
-      let t : get_or s at 0 ≡ tag = eqb-true (get_or s at 0) tag (and_left (eqb (get_or s at 0) tag) (eqb w k) h) in
-      let n : word_at s (at + 1) ≡ k = eqb-true w k (and_right (eqb (get_or s at 0) tag) (eqb w k) h) in
+      let t : get_or s at 0 ≡ tag = eqb-true (get_or s at 0) tag (and_parts (eqb (get_or s at 0) tag) (eqb w k) h).0 in
+      let n : word_at s (at + 1) ≡ k = eqb-true w k (and_parts (eqb (get_or s at 0) tag) (eqb w k) h).1 in
       let l : get_or s (at + 1) 0 ≡ k % 256 = omega (arith, bytes (at + 1)) in
       let u : get_or s (at + 1 + 1) 0 ≡ k / 256 = omega (arith, bytes (at + 1)) in
       rw (t, l, u, length_elems k (at + 1 + 1 + 1) s)
@@ -200,24 +200,24 @@ module _ (s : List ℕ) (bytes : Bytes s) where
   unfolding layout_of record_of limits_of settings_of
   layout_exact l =
       let n : ℕ = word_at s 25 in
-      let w = and_left (within least_stations most_stations n) _ l in
-      let l1 = and_right (within least_stations most_stations n) _ l in
-      let size : length s ≡ 35 + n = eqb-true (length s) (35 + n) (and_left (eqb (length s) (35 + n)) _ l1) in
-      let l2 = and_right (eqb (length s) (35 + n)) _ l1 in
-      let l3 = and_right (head_at s 0 1 1) _ l2 in
-      let l4 = and_right (head_at s 4 2 2) _ l3 in
-      let l5 = and_right (head_at s 9 3 2) _ l4 in
-      let l6 = and_right (head_at s 14 4 2) _ l5 in
-      let l7 = and_right (head_at s 19 5 2) _ l6 in
+      let w = (and_parts (within least_stations most_stations n) _ l).0 in
+      let l1 = (and_parts (within least_stations most_stations n) _ l).1 in
+      let size : length s ≡ 35 + n = eqb-true (length s) (35 + n) (and_parts (eqb (length s) (35 + n)) _ l1).0 in
+      let l2 = (and_parts (eqb (length s) (35 + n)) _ l1).1 in
+      let l3 = (and_parts (head_at s 0 1 1) _ l2).1 in
+      let l4 = (and_parts (head_at s 4 2 2) _ l3).1 in
+      let l5 = (and_parts (head_at s 9 3 2) _ l4).1 in
+      let l6 = (and_parts (head_at s 14 4 2) _ l5).1 in
+      let l7 = (and_parts (head_at s 19 5 2) _ l6).1 in
       let some : 1 ≤ n = within_least least_stations most_stations n w in
       let four : n ≤ 4 = within_most least_stations most_stations n w in
-      let e1 = step 0 1 1 (and_left (head_at s 0 1 1) _ l2) (omega arith) in
-      let e2 = step 4 2 2 (and_left (head_at s 4 2 2) _ l3) (omega arith) in
-      let e3 = step 9 3 2 (and_left (head_at s 9 3 2) _ l4) (omega arith) in
-      let e4 = step 14 4 2 (and_left (head_at s 14 4 2) _ l5) (omega arith) in
-      let e5 = step 19 5 2 (and_left (head_at s 19 5 2) _ l6) (omega arith) in
-      let e6 = step 24 6 n (and_left (head_at s 24 6 n) _ l7) (omega arith) in
-      let e7 = step (27 + n) 7 5 (and_right (head_at s 24 6 n) _ l7) (omega arith) in
+      let e1 = step 0 1 1 (and_parts (head_at s 0 1 1) _ l2).0 (omega arith) in
+      let e2 = step 4 2 2 (and_parts (head_at s 4 2 2) _ l3).0 (omega arith) in
+      let e3 = step 9 3 2 (and_parts (head_at s 9 3 2) _ l4).0 (omega arith) in
+      let e4 = step 14 4 2 (and_parts (head_at s 14 4 2) _ l5).0 (omega arith) in
+      let e5 = step 19 5 2 (and_parts (head_at s 19 5 2) _ l6).0 (omega arith) in
+      let e6 = step 24 6 n (and_parts (head_at s 24 6 n) _ l7).0 (omega arith) in
+      let e7 = step (27 + n) 7 5 (and_parts (head_at s 24 6 n) _ l7).1 (omega arith) in
       let m : 24 + suc (suc (suc n)) ≡ 27 + n = omega arith in
       let z : 27 + n + 8 ≡ length s = omega arith in
       let last :
