@@ -36,7 +36,8 @@ pub fn tick(
     )
 }
 
-// The settings in use written into the first n bytes.
+// The settings in use written into the first n bytes. Stays a count beside the buffer, as in a tick: `WriteLent` and
+// `TickLent` speak of the rest of the buffer too.
 pub fn write(c: &Controller, buf: &mut [u8], n: usize) -> Result<usize, Refusal>
     ensures { WriteLent c.now.settings n buf.old buf.new (written result) }
 {

@@ -19,8 +19,8 @@ use Rattle.replay_script.specs.declared.lent.Lent.{Lent}
 use Rattle.replay_text.specs.Lines.{line_end}
 use Rattle.replay_host.specs.Host.{Keeps, Outcome, keeps_of, Comes, absent_for, absent_done, unreadable_done}
 use Rattle.replay_host.specs.Lines.{World, Carried, world_of, having, Makes, and_then, logged_clock}
-use Rattle.replay_host.specs.Lines.{calls_done, calls_buffer, clock_after, carried_out, line_of, line_read, line_done, lines_up_to}
-use Rattle.replay_host.specs.Lines.{lines_done, CarriesOut}
+use Rattle.replay_host.specs.Lines.{calls_done, calls_buffer, clock_after, carried_out, line_of, line_read, line_done}
+use Rattle.replay_host.specs.Lines.{lines_up_to, lines_done, CarriesOut}
 use Rattle.replay_calls.specs.Counts.{next_number}
 use Rattle.replay_host.specs.Ticks.{lending}
 use Rattle.replay_host.specs.declared.held.Host.{Host}
@@ -42,7 +42,8 @@ module _ {W : Type 0} where
 
   -- a run with another host, that is lent another buffer
   pub lends : (r : Run W) (h : Host W) {l : Loan} {b : List ℕ} → l ≡ lending r.loan b
-      → ◌≡◌ {A = Run W} (record { host = h; loan = l; clock = r.clock; number = r.number; bytes = r.bytes }) (having r h b)
+      → ◌≡◌ {A = Run W} (record { host = h; loan = l; clock = r.clock; number = r.number; bytes = r.bytes })
+      (having r h b)
   lends r h e = rw e
 
   -- a line's calls, by what it asks for
@@ -60,7 +61,8 @@ unfolding absent_done
 absent_keeps x = kept_for x.held x
 
 -- a log's clock, by what is due
-pub clock_by : (asked : Asked) (c : Clock) (now id n : ℕ) (d : Option (ℕ × Clock)) → asked ≡ asks.Logged now id n → due_of c now ≡ d
+pub clock_by : (asked : Asked) (c : Clock) (now id n : ℕ) (d : Option (ℕ × Clock))
+    → asked ≡ asks.Logged now id n → due_of c now ≡ d
     → logged_clock d c ≡ clock_after asked c
 unfolding clock_after
 clock_by asked c now id n d e f = rw (e, f)
@@ -103,7 +105,8 @@ unfolding line_of unreadable_done
 unreadable_by r e p = rw e (record { world = rw p.kept; prints = p.prints })
 
 -- a line that was read
-pub line_by : (text : List ℕ) (at end number : ℕ) (w : World) (asked : Option Asked) (bytes volts : List ℕ) (temps : List ℤ)
+pub line_by : (text : List ℕ) (at end number : ℕ) (w : World) (asked : Option Asked)
+    (bytes volts : List ℕ) (temps : List ℤ)
     → end ≡ line_end text at → number ≡ next_number w.number
     → (asked ≡ asked_in text at end)
     × ((bytes ≡ bytes_after text at end w.bytes)

@@ -17,7 +17,8 @@ use Rattle.replay_print.specs.declared.standings.Standing.{Standing}
 use Rattle.settings.specs.Write.{Written, written_of}
 use Rattle.settings.specs.declared.Settings.{Settings}
 use Rattle.replay_calls.specs.Calls.{buffer_written, WriteLent}
-use Rattle.replay_host.specs.Host.{Keeps, Outcome, keeps_of, Comes, only, first, entered, standing_held, standing_done, start_done}
+use Rattle.replay_host.specs.Host.{Keeps, Outcome, keeps_of, Comes, only, first, entered, standing_held}
+use Rattle.replay_host.specs.Host.{standing_done, start_done}
 use Rattle.replay_host.specs.Host.{settings_done, answer_done, frame_for, frame_done, written_done, write_for}
 use Rattle.replay_host.specs.Host.{write_done, write_buffer, absent_for, absent_done}
 use Rattle.replay_host.specs.declared.held.Host.{Host}

@@ -20,7 +20,8 @@ use Rattle.replay_calls.specs.Calls.{tick_accepted, tick_sent, tick_answer, buff
 use Rattle.replay_calls.specs.Counts.{count_after}
 use Rattle.replay_host.proofs.Outcomes.{comes_first}
 use Rattle.replay_host.specs.Host.{Keeps, keeps_of, Comes, only, entered}
-use Rattle.replay_host.specs.Ticks.{lending, bytes_of, tick_text, ticked_done, tick_for, tick_done, tick_buffer, ticks_done, ticks_buffer}
+use Rattle.replay_host.specs.Ticks.{lending, bytes_of, tick_text, ticked_done, tick_for, tick_done, tick_buffer}
+use Rattle.replay_host.specs.Ticks.{ticks_done, ticks_buffer}
 use Rattle.replay_host.specs.declared.held.Host.{Host}
 use Rattle.replay_host.specs.declared.ticks.Loan.{Loan}
 

@@ -1,5 +1,6 @@
 -- Lines carried out: what each makes of a run by what it asks for (docs/REPLAY.md, "Input"), and all of them in turn.
-use Rattle.std.specs.Prelude.{ℕ, zero, suc, ◌+◌, ◌≡◌, cond, ◌&&◌, List, [], ◌++◌, ltb, ℤ, take, replicate, Option, None, Some}
+use Rattle.std.specs.Prelude.{ℕ, zero, suc, ◌+◌, ◌≡◌, cond, ◌&&◌, Option, None, Some, List, [], ◌++◌}
+use Rattle.std.specs.Prelude.{ltb, ℤ, take, replicate}
 use Rattle.replay_text.specs.Lines.{line_end}
 use Rattle.replay_script.specs.declared.Asked.{Asked}
 use Rattle.replay_script.specs.declared.Asked.TheVariants as asks
@@ -11,8 +12,8 @@ use Rattle.replay_script.specs.Lines.{asked_in, bytes_after, volts_after, temps_
 use Rattle.replay_print.specs.Out.{Prints}
 use Rattle.replay_host.specs.declared.held.Host.{Host}
 use Rattle.replay_host.specs.declared.lines.Run.{Run}
-use Rattle.replay_host.specs.Host.{Keeps, Outcome, keeps_of, Comes, only, first, start_keeps, absent_done, settings_done}
-use Rattle.replay_host.specs.Host.{frame_done, write_done, write_buffer, unreadable_done}
+use Rattle.replay_host.specs.Host.{Keeps, Outcome, keeps_of, Comes, only, first, start_keeps, absent_done}
+use Rattle.replay_host.specs.Host.{settings_done, frame_done, write_done, write_buffer, unreadable_done}
 use Rattle.replay_host.specs.Ticks.{lending, ticks_done, ticks_buffer}
 use Rattle.replay_calls.specs.Counts.{next_number}
 
@@ -51,7 +52,8 @@ world_of r =
 abbrev pub having : {W : Type 0} → Run W → Host W → List ℕ → Run W
 having r host buffer = record r { host = host; loan = lending r.loan buffer }
 
--- at the start: no controller, what ticks are lent at first, no time zero, no line read, and nothing in the other arrays
+-- at the start: no controller, what ticks are lent at first, no time zero, no line read, and nothing in the other
+-- arrays
 unfoldable pub start_world : World
 start_world =
     record {

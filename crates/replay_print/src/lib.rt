@@ -1,6 +1,6 @@
 // What a replay prints: the output and its buffer, text, numbers in decimal and bytes in hex; and the lines of answers,
-// of frames as candump writes them, and of a session's standing. This crate may not know any controller, why a frame was
-// sent, nor any rule of the paper.
+// of frames as candump writes them, and of a session's standing. This crate may not know any controller, why a frame
+// was sent, nor any rule of the paper.
 #![tactic(auto)]
 
 pub mod answers;

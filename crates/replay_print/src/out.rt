@@ -22,6 +22,8 @@ impl<W> Model for Out<W> {
     ghost view = { λ o. out_of o.buf o.at };
 }
 
+// Stays printing by methods, with no `Display` and `write!`: what those write is promised only where they answer `Ok`,
+// and each text here is promised on every call (`Prints`).
 impl<W: Write> Out<W> {
     pub fn new(to: W) -> Self
         ensures { result ≡ out_of (replicate 65536 0) 0 }

@@ -13,5 +13,6 @@ unfolding answer_done
 returns g c =
     let x = keeps_of c.args.self.now in
     comes_eq
-    (comes_first (rw c.number.ensures at c.frame.ensures) (enters c.args.self.now.held c.standing-before.ensures c.changed.ensures))
+    (comes_first (rw c.number.ensures at c.frame.ensures)
+    (enters c.args.self.now.held c.standing-before.ensures c.changed.ensures))
     (ap (answer_done x) c.frame-answer.ensures ∙ frame_of_lem x _ _ _ c.in-Some.is)

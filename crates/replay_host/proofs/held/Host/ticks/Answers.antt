@@ -8,7 +8,8 @@ use Rattle.replay_host.proofs.held.Host.ticks.Goals as goal
 pub returns-then-is_none : goal.returns-then-is_none
 returns-then-is_none g c =
     let l = c.args.loan.now in
-    let e = no_ticks l.lent l.volts l.temps c.args.n l.buffer (keeps_of c.args.self.now) (held_none _ c.if-is_none.ensures) in
+    let none = held_none _ c.if-is_none.ensures in
+    let e = no_ticks l.lent l.volts l.temps c.args.n l.buffer (keeps_of c.args.self.now) none in
     record { comes = comes_eq (comes_none _) e.0; loan_after = ap (lending l) e.1 }
 
 pub loop-init : goal.loop-init
