@@ -1,6 +1,6 @@
 -- The lines of the text, and what is held of one that the input has not ended yet. A line may have 4,096 characters; a
 -- longer one is unreadable (docs/REPLAY.md, "Input").
-use Rattle.std.specs.Prelude.{ℕ, suc, ◌+◌, cond, ◌&&◌, List, [], ◌∷◌, ltb, leb, eqb, length, take, drop, set}
+use Rattle.std.specs.Prelude.{ℕ, suc, ◌+◌, cond, ◌&&◌, List, [], ◌∷◌, ltb, leb, eqb, length, set}
 use Rattle.replay_text.specs.Chars.{newline, byte_at, past_all, in_line}
 use Rattle.replay_text.specs.Words.{past_gaps}
 
@@ -17,18 +17,14 @@ unfoldable pub past_last : List ℕ → ℕ
 past_last [] = 0
 past_last (b ∷ l) = cond (ltb 0 (past_last l)) (suc (past_last l)) (cond (eqb b newline) 1 0)
 
--- the characters from a place up to the n-th
-abbrev pub part : List ℕ → ℕ → ℕ → List ℕ
-part text from n = drop from (take n text)
-
 -- how many are kept of the n characters of a line that is not ended: one more than a line may have is enough
 unfoldable pub kept_of : ℕ → ℕ
 kept_of n = cond (leb n longest) n (longest + 1)
 
 -- of a line that is too long it matters only whether it is blank or a comment: where all that are kept are gaps, and
--- there is one among the n that is none, the first such takes the place of the last that is kept
-unfoldable pub shortened_of : List ℕ → ℕ → List ℕ
-shortened_of text n =
-    cond (ltb longest n && (ltb longest (past_gaps text 0) && ltb (past_gaps text 0) (length (take n text))))
-    (set text longest (byte_at text (past_gaps text 0)))
-    text
+-- there is one in it that is none, the first such takes the place of the last that is kept
+unfoldable pub shortened_of : List ℕ → List ℕ
+shortened_of line =
+    cond (ltb longest (length line) && (ltb longest (past_gaps line 0) && ltb (past_gaps line 0) (length line)))
+    (set line longest (byte_at line (past_gaps line 0)))
+    line

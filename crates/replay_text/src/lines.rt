@@ -1,7 +1,7 @@
 // The lines of the input: where each ends, and what is held of one that the input has not ended yet.
-ghost use Rattle.std.specs.Prelude.{◌≡◌, ◌+◌, ◌≤◌, length};
+ghost use Rattle.std.specs.Prelude.{◌≡◌, ◌+◌, ◌≤◌, length, drop};
 ghost use Rattle.replay_text.specs.Chars.{laid_first};
-ghost use Rattle.replay_text.specs.Lines.{line_end, past_last, part, kept_of, shortened_of};
+ghost use Rattle.replay_text.specs.Lines.{line_end, past_last, kept_of, shortened_of};
 
 use crate::{past_all, words};
 
@@ -30,32 +30,32 @@ pub fn past_last(text: &[u8]) -> usize
     0
 }
 
-// The characters from a place up to the n-th, moved to the start: how many.
-#[tactic(auto, using(crate::proofs::Held::moved_part))]
-pub fn moved(text: &mut [u8], from: usize, n: usize) -> usize
-    ensures answer { result ≡ length (part text.old from n) }
-    ensures later { text.new ≡ laid_first (part text.old from n) text.old }
+// The characters from a place on, moved to the start: how many.
+#[tactic(auto, using(crate::proofs::Held::moved_rest))]
+pub fn moved(text: &mut [u8], from: usize) -> usize
+    ensures answer { result ≡ length (drop from text.old) }
+    ensures later { text.new ≡ laid_first (drop from text.old) text.old }
 {
-    let stop = n.min(text.len());
-    let start = from.min(stop);
-    text.copy_within(start..stop, 0);
-    stop - start
+    let start = from.min(text.len());
+    text.copy_within(start.., 0);
+    text.len() - start
 }
 
-// The beginning of a line, of which the first n characters are held: how many are kept of them. Of a line that is too
-// long to be read only that it is so matters, and whether it is blank or a comment: so one character more than a line
-// may have is kept, and where all before that one are gaps, the first that is none stands in its place.
+// The beginning of a line, held whole: how many characters are kept of it. Of a line that is too long to be read only
+// that it is so matters, and whether it is blank or a comment: so one character more than a line may have is kept, and
+// where all before that one are gaps, the first that is none stands in its place.
 #[tactic(auto, unfolding(crate::specs::Lines::kept_of, crate::specs::Lines::shortened_of))]
-pub fn shortened(text: &mut [u8], n: usize) -> usize
-    ensures answer { result ≡ kept_of n }
-    ensures later { text.new ≡ shortened_of text.old n }
+pub fn shortened(line: &mut [u8]) -> usize
+    ensures answer { result ≡ kept_of (length line.old) }
+    ensures later { line.new ≡ shortened_of line.old }
 {
+    let n = line.len();
     if n <= LONGEST {
         return n;
     }
-    let first = words::past_gaps(text, 0);
-    if LONGEST < first && first < n.min(text.len()) {
-        text[LONGEST] = text[first];
+    let first = words::past_gaps(line, 0);
+    if LONGEST < first && first < n {
+        line[LONGEST] = line[first];
     }
     LONGEST + 1
 }
