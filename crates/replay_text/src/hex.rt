@@ -10,6 +10,7 @@ use crate::digits::digit;
 // As many bytes as a line can hold in hex.
 pub const MOST_BYTES: usize = 2048;
 
+// Stays an array with a count beside it: memory is fixed (no heap), and what is laid is promised of the whole array.
 pub type Bytes = [u8; MOST_BYTES];
 
 // The value of the hex digit at a place, where there is one.

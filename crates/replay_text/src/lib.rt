@@ -18,6 +18,9 @@ pub const SIZE: usize = 65536;
 // As much of the input as is held at once: whole lines, each with its newline, and the beginning of one more.
 pub type Text = [u8; SIZE];
 
+// Stays a text and a place in it, two parameters of each reader: what they answer is places of one text (a word's two
+// ends, the place past digits), numbers in the definitions too, and a struct of both would lend the text with each.
+
 // The character at a place; past the text, a newline.
 pub fn byte_at(text: &[u8], at: usize) -> u8
     ensures { result ≡ byte_at text.now at }
