@@ -7,7 +7,7 @@ ghost use Rattle.std.specs.Prelude.{◌≤◌};
 
 use replay_host::lines::Run;
 use replay_print::out::Out;
-use replay_text::{Text, lines};
+use replay_text::{SIZE, Text, lines};
 use std::io;
 use std::io::{Input, Read, Write};
 
@@ -46,8 +46,8 @@ impl<I: Read> Source<I> {
         let n = self.held(count);
         let last = lines::past_last(&self.text[..n]);
         run.carry_out_lines(&self.text, last);
-        let begun = lines::moved(&mut self.text, last, n);
-        self.filled = lines::shortened(&mut self.text, begun);
+        let begun = lines::moved(&mut self.text[..n], last);
+        self.filled = lines::shortened(&mut self.text[..begun]);
         0 < count
     }
 }
@@ -55,7 +55,7 @@ impl<I: Read> Source<I> {
 fn main(rt: HostRuntime) {
     let mut source = Source {
         input: rt.reader(),
-        text: [0; 65536],
+        text: [0; SIZE],
         filled: 0,
     };
     let mut run = Run::start(Out::new(io::writer(&rt)));
