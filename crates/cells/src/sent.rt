@@ -17,17 +17,20 @@ pub fn as_sent(t: i16) -> SentDegrees
 pub fn temperature_byte(t: SentDegrees) -> u8
     ensures { result ≡ temperature_byte t.0 }
 {
-    (t.0 % 256) as u8
+    let [low, _] = t.0.to_le_bytes();
+    low
 }
 
 pub fn count_byte(count: u16) -> u8
     ensures { result ≡ count_byte count }
 {
-    (count % 256) as u8
+    let [low, _] = count.to_le_bytes();
+    low
 }
 
 pub fn index_byte(index: u16) -> u8
     ensures { result ≡ index_byte index }
 {
-    (index % 256) as u8
+    let [low, _] = index.to_le_bytes();
+    low
 }

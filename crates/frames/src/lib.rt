@@ -45,7 +45,8 @@ impl Frame {
         [i, j, k, l, self.length, a, b, c, d, e, f, g, h]
     }
 
-    // The frame's record laid at a place with room for it; the place past it is returned.
+    // The frame's record laid at a place with room for it; the place past it is returned. The room stays asked of each
+    // caller: every one lays another number of frames, so no type of buffer and place could have it as its invariant.
     pub fn send(self, buf: &mut [u8], at: usize) -> usize
         requires { at + record_size ≤ length buf.old }
         ensures { Sent 1 buf.old buf.new at result (self ∷ []) }

@@ -20,13 +20,14 @@ impl From<u32> for Identifier {
 
     #[tactic(auto, unfolding(crate::specs::Identifier::parts_of))]
     fn from(id: u32) -> Identifier {
+        let [source, ps, pf, flags] = id.to_le_bytes();
         Identifier {
-            priority: (id / 0x400_0000 % 8) as u8,
-            reserved: (id / 0x200_0000 % 2) as u8,
-            page: (id / 0x100_0000 % 2) as u8,
-            pf: (id / 0x1_0000 % 256) as u8,
-            ps: (id / 0x100 % 256) as u8,
-            source: (id % 256) as u8,
+            priority: flags / 4 % 8,
+            reserved: flags / 2 % 2,
+            page: flags % 2,
+            pf,
+            ps,
+            source,
         }
     }
 }

@@ -20,7 +20,8 @@ pub enum Name {
     Error,
 }
 
-// A session's state and station, as they are printed.
+// A session's state and station, as they are printed. Stays an enum and no option: Idle is a state with a name that is
+// printed too, and not the lack of one.
 #[derive(Clone, Copy, PartialEq, Eq)]
 pub enum Standing {
     Idle,

@@ -84,7 +84,8 @@ fn kind_of(text: &[u8], from: usize) -> Kind
     Kind::Frame
 }
 
-// What a line asks for whose first word begins at a place.
+// What a line asks for whose first word begins at a place. Stays a match on the kind: the readers take different arrays,
+// so that a closure for each would hide which array a kind may change, and be no shorter.
 #[tactic(auto, unfolding(crate::specs::Lines::asks_of, crate::specs::Lines::bytes_of, crate::specs::Lines::volts_of, crate::specs::Lines::temps_of))]
 fn read_words(
     text: &[u8],
