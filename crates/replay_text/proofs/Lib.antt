@@ -4,3 +4,4 @@ pub mod Pairs
 pub mod Held
 pub mod Conversions
 pub mod Spelled
+pub mod Hexes

@@ -13,16 +13,11 @@ pub struct Digits {
 }
 
 // The value of a digit, of either case.
-#[tactic(auto, unfolding(crate::specs::Digits::digit_of))]
+#[tactic(auto, using(crate::proofs::Hexes::hex_digit))]
 pub fn digit(b: u8) -> Option<u8>
     ensures { result ≡ digit_of b }
 {
-    match b {
-        b'0'..=b'9' => Some(b - b'0'),
-        b'a'..=b'f' => Some(b - b'a' + 10),
-        b'A'..=b'F' => Some(b - b'A' + 10),
-        _ => None,
-    }
+    char::from(b).to_digit(16).map(|x| x as u8)
 }
 
 // One digit more. A value that passes what any line may hold stays there.
