@@ -33,7 +33,8 @@ impl Controller {
     }
 
     // ENTRY POINT. Any readings, any tables, any buffer, any controller: the bytes written, or the refusal, and neither
-    // the controller nor the buffer changed.
+    // the controller nor the buffer changed. The tables stay two slices: `TickIs` is of tables that differ in length too,
+    // which 14 is for.
     pub fn tick(
         &mut self,
         r: Readings,
