@@ -15,8 +15,8 @@ use settings::Versions;
 
 pub mod beat;
 
-// In the order in which they are sent. They stay five fields, since each is made and read by its message's name; the
-// array of them is `in_order`.
+// In the order in which they are sent. They stay five fields, since each is made by its message's name, and the laws
+// of a broadcast read it by that name; the array of them is `in_order`.
 #[derive(Clone, Copy)]
 pub struct Broadcasts {
     pub ps: Frame,

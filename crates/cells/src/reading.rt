@@ -16,7 +16,7 @@ pub const LEAST_TEMPERATURE: i16 = -50;
 
 pub const MOST_TEMPERATURE: i16 = 205;
 
-// A unit, in which a figure of a table is.
+// A unit, in which a figure of a table is. Its maker has a name in the definitions (`of`), which `From` would not give.
 pub trait Unit: Copy {
     // So many of it.
     ghost of: { ℕ → Self };

@@ -43,15 +43,24 @@ fn cim(a: u8, b: u8, c: u8) -> Result<ChargeMessage, Refusal>
     }
 }
 
+// A byte that is true and 00 that is false; any other is not allowed.
+fn flag(b: u8, yes: u8) -> Result<bool, Refusal>
+    ensures { result ≡ cond (eqb b yes) (Ok true) (cond (eqb b 0x00) (Ok false) (Err NotAllowed)) }
+{
+    if b == yes {
+        return Ok(true);
+    }
+    match b {
+        0 => Ok(false),
+        _ => Err(Refusal::ContentNotAllowed),
+    }
+}
+
 // AA is true and 00 false.
 fn mark(b: u8) -> Result<bool, Refusal>
     ensures { result ≡ cond (eqb b 0xaa) (Ok true) (cond (eqb b 0x00) (Ok false) (Err NotAllowed)) }
 {
-    match b {
-        0xaa => Ok(true),
-        0 => Ok(false),
-        _ => Err(Refusal::ContentNotAllowed),
-    }
+    flag(b, 0xaa)
 }
 
 fn cvm(a: u8) -> Result<ChargeMessage, Refusal>
@@ -84,11 +93,7 @@ fn crm(a: u8) -> Result<ChargeMessage, Refusal>
 fn ccs(e: u8) -> Result<ChargeMessage, Refusal>
     ensures { result ≡ ccs_of e }
 {
-    match e {
-        1 => Ok(ChargeMessage::Ccs(true)),
-        0 => Ok(ChargeMessage::Ccs(false)),
-        _ => Err(Refusal::ContentNotAllowed),
-    }
+    Ok(ChargeMessage::Ccs(flag(e, 1)?))
 }
 
 fn cst(c: u8) -> Result<ChargeMessage, Refusal>

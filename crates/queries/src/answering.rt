@@ -13,6 +13,9 @@ use messages::received::Kind;
 use messages::table;
 use messages::table::Row;
 
+// What a kind is asked for goes by a match in each of these three: a kind names a row and a group of its own, and
+// `cells::reading::Reading` is of a cell's type, which knows neither.
+
 // The cells that stand before a group.
 fn cells_before(kind: Kind, group: usize) -> usize
     requires { group ≤ 256 }

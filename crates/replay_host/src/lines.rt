@@ -105,7 +105,8 @@ impl<W: Write> Run<W> {
     pub fn carry_out_lines(&mut self, text: &Text, last: usize)
         ensures { CarriesOut self.old self.new (lines_done text.now last (world_of self.old)) }
     {
-        // Stays a `while`: the place moves on by whole lines, and how long one is is read from the text.
+        // Stays a `while`: the place moves on by whole lines, whose length is read from the text, so that no range or
+        // iterator of the library walks them, and one of our own would be the same loop with a type around it.
         let mut at = 0;
         while at < last.min(text.len()) {
             let end = lines::line_end(text, at);

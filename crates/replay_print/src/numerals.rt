@@ -6,8 +6,7 @@ ghost use Rattle.replay_print.specs.Text.{padded_of, hex_digit, hex_of, hexes_of
 use crate::out::Out;
 use std::io::Write;
 
-// A hex digit, in capitals. Stays a choice of two: the library writes hex by `write!`, whose text is promised only where
-// it answers `Ok`.
+// A hex digit, in capitals. Stays a choice of two: the library's `from_digit` gives a small letter, and a `char`.
 fn digit(n: u8) -> u8
     requires { n < 16 }
     ensures { result ≡ hex_digit n }

@@ -62,7 +62,7 @@ impl Standing {
         Standing::In(name, station)
     }
 
-    // Whether it need not be printed after another.
+    // Whether it need not be printed after another: the derived equality, under the definition's name.
     #[tactic(auto, unfolding(crate::specs::Standings::same_standing))]
     fn same(self, other: Standing) -> bool
         ensures { result ≡ same_standing self other }

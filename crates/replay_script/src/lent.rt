@@ -10,8 +10,8 @@ use units::TenthVolts;
 // As many cells as a table has: more than a tick takes, so that it can be seen to refuse.
 pub const ENTRIES: usize = 512;
 
-// The cell tables. Stay arrays, how much of each is lent beside them in `Lent`: memory is fixed (no heap), and what is
-// read is promised of the whole table.
+// The cell tables. Stay arrays, how much of each is lent beside them in `Lent`: what is read is promised of the whole
+// table, its rest too (`table_of`), which a vector that shows its first so many cannot say.
 pub type Voltages = [u16; ENTRIES];
 
 pub type Temperatures = [i16; ENTRIES];

@@ -123,9 +123,9 @@ fn longer(at: usize, end: usize) -> bool
     LONGEST < end.saturating_sub(at)
 }
 
-// What the line asks for that begins at a place and has its newline at another; none where it cannot be read. The bytes that it gives are laid into
-// `bytes`, the entries of a table into that table; of a table that cannot be read nothing is kept. A blank line or a
-// comment is ignored, however long; any other may have 4,096 characters.
+// What the line asks for that begins at a place and has its newline at another; none where it cannot be read. The bytes
+// that it gives are laid into `bytes`, the entries of a table into that table; of a table that cannot be read nothing is
+// kept. A blank line or a comment is ignored, however long; any other may have 4,096 characters.
 #[tactic(auto, unfolding(crate::specs::Lines::is_ignored, crate::specs::Lines::asked_in, crate::specs::Lines::bytes_after, crate::specs::Lines::volts_after, crate::specs::Lines::temps_after))]
 pub fn read_line(
     text: &[u8],

@@ -37,6 +37,7 @@ fn with_digit(value: u64, base: u8, x: u8) -> u64
 pub fn read_digits(text: &[u8], from: usize, base: u8) -> Digits
     ensures { result ≡ digits_at base text.now from }
 {
+    // The count is part of what is answered, and goes up with the digits alone.
     let mut count = 0;
     let mut value = 0;
     for b in rest(text, from) {

@@ -10,7 +10,8 @@ use crate::digits::digit;
 // As many bytes as a line can hold in hex.
 pub const MOST_BYTES: usize = 2048;
 
-// Stays an array with a count beside it: memory is fixed (no heap), and what is laid is promised of the whole array.
+// Stays an array with a count beside it: what is laid is promised of the whole array, its rest too (`laid_first`), which
+// a vector that shows its first so many cannot say.
 pub type Bytes = [u8; MOST_BYTES];
 
 // The value of the hex digit at a place, where there is one.
@@ -27,6 +28,7 @@ pub fn read_bytes(text: &[u8], from: usize, out: &mut Bytes) -> Option<(usize, u
     ensures answer { result ≡ hex_in text.now from }
     ensures later { out.new ≡ laid_first (bytes_in text.now from) out.old }
 {
+    // The place moves on by the two characters of a byte, and ends at the first that is no digit.
     let mut at = from;
     for n in 0..out.len() {
         let Some(high) = digit_at(text, at) else {

@@ -28,7 +28,7 @@ pub fn byte_at(text: &[u8], at: usize) -> u8
     text.get(at).copied().unwrap_or(b'\n')
 }
 
-// The next place, up to the end of the text.
+// The next place, up to the most that a text has.
 pub fn after(at: usize) -> usize
     ensures { result ≡ next_place at }
 {

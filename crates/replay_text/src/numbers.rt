@@ -5,7 +5,8 @@ ghost use Rattle.replay_text.specs.Numbers.{past_sign, number_in, up_to, of_16_b
 use crate::words::Word;
 use crate::{after, byte_at, digits, words};
 
-// A type that the numbers of a line are read as.
+// A type that the numbers of a line are read as. Each instance is the library's `TryFrom` under a definition of its own,
+// which `read_as` names.
 pub trait Number: Copy {
     // The value that a number is, where the type holds it.
     ghost of: { ℤ → Option Self };

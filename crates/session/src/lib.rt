@@ -30,7 +30,8 @@ pub struct Session {
     pub state: State,
 }
 
-// What a message comes to: whether it is taken, and the next session.
+// What a message comes to: whether it is taken, and the next session, also where it is not (11 may return silence to 0);
+// so the two stand side by side. A session goes in and comes back by value, as the paper's form has it.
 #[derive(Clone, Copy)]
 pub struct Taken {
     pub answer: Result<(), Refusal>,

@@ -22,10 +22,9 @@ unfoldable pub start_phase : TenthAmps → TenthAmps → Phase
 start_phase maximum station =
     cond (too_small (lesser_amps maximum station)) (Hold 0) (Drive (lesser_amps maximum station) 1 0)
 
--- what a tick makes of a phase: the charge goes on in a phase (Continue), or stops for a cause (Break)
-
--- Drive asks R for up to 18000 ticks; the next one stops. A cell at or above maximum turns Drive to Rest. A phase's
--- time limit comes before its cell rule
+-- What a tick makes of a phase: the charge goes on in a phase (Continue), or stops for a cause (Break). Drive asks R for
+-- up to 18000 ticks; the next one stops. A cell at or above maximum turns Drive to Rest. A phase's time limit comes before
+-- its cell rule
 unfoldable pub drive_rules : TenthAmps → ℕ → ℕ → Bool → ControlFlow Cause Phase
 drive_rules request cycle time cell =
     cond (leb drive_limit time) (Break Other) (cond cell (Continue (Rest request cycle 0)) (Continue (Drive request cycle time)))

@@ -41,7 +41,7 @@ pub type PhaseAfter = ControlFlow<Cause, Phase>;
 pub fn start_phase(maximum: TenthAmps, station: TenthAmps) -> Phase
     ensures { result ≡ start_phase maximum station }
 {
-    let request = maximum.min(station);
+    let request = maximum.lesser(station);
     if request < limits::LEAST_REQUEST {
         Phase::Hold { time: 0 }
     } else {

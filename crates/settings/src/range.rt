@@ -29,10 +29,11 @@ pub const MOST_STATIONS: u16 = 4;
 pub fn within(least: u16, most: u16, n: u16) -> bool
     ensures { result ≡ within least most n }
 {
-    (least <= n) & (n <= most)
+    (least..=most).contains(&n)
 }
 
-// No address of the list is this one.
+// No address of the list is this one. This and the two tests below stay recursions over the list's pattern and no
+// `contains` or `all`: they are the definitions read aloud, and a chain needs a law beside it to be that definition.
 fn lacks(a: u8, l: &[u8]) -> bool
     ensures { result ≡ lacks a l.now }
 {

@@ -1,6 +1,7 @@
 // What a tick sends, laid into the lent buffer: the session's frames, the broadcasts where they are due, and the cell
 // frame where one is due (01, "Session by tick", "Broadcasts and cell answers"). This crate may not know controllers,
-// cell queries or refusals: its caller shows that the buffer has room and that the cells were accepted.
+// cell queries or refusals: its caller shows that the buffer has room, and hands on cells that were
+// accepted. The room stays asked of each function: each lays another number of frames.
 #![tactic(auto)]
 
 ghost use Rattle.std.specs.Option.{option_to_list};

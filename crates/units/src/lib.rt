@@ -4,7 +4,7 @@
 #![tactic(auto)]
 
 ghost use Rattle.std.specs.Prelude.{◌≡◌};
-ghost use Rattle.units.specs.Units.{in_series, halved_amps, raw_amps};
+ghost use Rattle.units.specs.Units.{in_series, lesser_amps, halved_amps, raw_amps};
 
 // A pack voltage: 0.1 V.
 #[derive(Clone, Copy, PartialEq, Eq, PartialOrd, Ord)]
@@ -39,6 +39,14 @@ impl HundredthVolts {
 }
 
 impl TenthAmps {
+    // The smaller of this and the other.
+    #[tactic(auto, using(crate::proofs::Laws::min_is_lesser))]
+    pub fn lesser(self, other: TenthAmps) -> TenthAmps
+        ensures { result ≡ lesser_amps self other }
+    {
+        self.min(other)
+    }
+
     // Halved, rounding down.
     pub fn halved(self) -> TenthAmps
         ensures { result ≡ halved_amps self }
