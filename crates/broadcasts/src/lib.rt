@@ -26,6 +26,9 @@ pub struct Broadcasts {
     pub ec: Frame,
 }
 
+// A broadcast takes of our address, the readings, the cells and the versions what its frame has. They stay parameters: no
+// two of the five take the same but CVS and CTS.
+
 // Status byte one with 80 hex on or clear; whatever stands in that bit already gives way.
 fn status_byte(heartbeat: bool, one: u8) -> u8
     ensures { result ≡ status_byte heartbeat one }

@@ -56,7 +56,8 @@ impl Frame {
     }
 }
 
-// The frames' records laid one after the other from a place with room for them; the place past them is returned.
+// The frames' records laid one after the other from a place with room for them, which is asked as of `send`; the place past
+// them is returned.
 pub fn send_all(frames: &[Frame], buf: &mut [u8], at: usize) -> usize
     requires { at + record_size * length frames.now ≤ length buf.old }
     ensures { Sent (length frames.now) buf.old buf.new at result frames.now }

@@ -1,4 +1,5 @@
-// A query is taken, or refused by its number (01, "Numbers returned", 12 and 13).
+// A query is taken, or refused by its number (01, "Numbers returned", 12 and 13). Source and kind stay two parameters: a
+// `Query` has them with the group that is sent next, which one that comes does not have.
 ghost use Rattle.std.specs.Prelude.{◌≡◌, take};
 ghost use Rattle.std.specs.List.{list_any};
 ghost use Rattle.queries.specs.Waiting.{waiting};

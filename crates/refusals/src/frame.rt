@@ -69,7 +69,8 @@ pub fn message_in(own: u8, id: u32, bytes: &[u8]) -> Result<Message, Refusal>
     Ok(m)
 }
 
-// One of the first `count` addresses is this one.
+// One of the first `count` addresses is this one. Stays beside `any_asks` of `queries`: another type, another test, and
+// the library's chain is all that the two share.
 fn any_is(addresses: &[u8], count: u16, source: u8) -> bool
     ensures { result ≡ list_any (eqb source) (take count addresses.now) }
 {

@@ -42,7 +42,8 @@ fn rest(text: &[u8], from: usize) -> &[u8]
     text.get(from..).unwrap_or(&[])
 }
 
-// The first place from one on where a character does not pass a test; the text's end where all do.
+// The first place from one on where a character does not pass a test; the text's end where all do. Stays a place that goes
+// up in a `for`: `position` answers nothing where all pass, and the end would have to be worked out beside it.
 fn past_all<F: Fn(u8) -> bool>(text: &[u8], from: usize, passes: F) -> usize
     ghost test: { ℕ → Bool }
     requires { Tests F.pre F.post passes test }

@@ -6,6 +6,8 @@ use crate::{counts, limits};
 use std::ops::ControlFlow;
 use units::TenthAmps;
 
+// Request, cycle and time stay fields of their phase, as the paper's form has them (Drive with request and cycle, Rest,
+// Hold), and parameters of the rules, which a Drive and the end of a Rest share.
 #[derive(Clone, Copy)]
 pub enum Phase {
     // The request R, which of the six Drives it is, and the ticks it has had.
