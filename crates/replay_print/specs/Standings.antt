@@ -30,8 +30,8 @@ standing_of (state.Charging p) station = In name.Charging station
 standing_of (state.Stopping acknowledged est) station = In name.Stopping station
 standing_of state.Error station = In (name.Error 0) station
 
--- the same by a number: the states in this order, from 0 on, and 7 is Error. Each number past it, which no state has, is
--- an Error of its own
+-- the same by a number: the states in this order, from 0 on, and 7 is Error. Each number past it, which no state has,
+-- is an Error of its own
 unfoldable pub standing_numbered : ℕ → ℕ → Standing
 standing_numbered n station =
     get_or

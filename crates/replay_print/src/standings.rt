@@ -17,8 +17,8 @@ pub enum Name {
     Ready,
     Charging,
     Stopping,
-    // By how much its number is past that of the state Error: 0 for the state. No state has a number past it; all of them
-    // are printed alike, and no two are the same.
+    // By how much its number is past that of the state Error: 0 for the state. No state has a number past it; all are
+    // printed alike, and no two are the same.
     Error(u8),
 }
 
