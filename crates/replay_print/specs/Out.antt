@@ -28,7 +28,12 @@ unfoldable pub laid_of : List ℕ → Output → Output
 laid_of [] x = x
 laid_of (b ∷ text) x = laid_of text (put_of b x)
 
+-- what the code's `Out` is: where it is written to, and the output that waits
+pub record Outgoing (W : Type 0) : Type 0 where
+  pub to : W
+  pub waits : Output
+
 -- what it is to print a text: the output `old` becomes `new` by the bytes of the text laid one after the other and by
--- nothing else
-pub record Prints (old new : Output) (text : List ℕ) : Type 0 where
-  pub later : new ≡ laid_of text old
+-- nothing else; of where it is written to nothing is said
+pub record Prints {W : Type 0} (old new : Outgoing W) (text : List ℕ) : Type 0 where
+  pub later : new.waits ≡ laid_of text old.waits

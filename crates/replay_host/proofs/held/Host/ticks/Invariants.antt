@@ -8,6 +8,6 @@ use Rattle.replay_host.proofs.held.Host.ticks.Given as goal
 abbrev pub invariant-loop : goal.invariant-loop
 invariant-loop g l = record {
   lent : l.loan ≡ lending l.fn.loan l.loan.buffer;
-  going : Going l.fn.loan.lent l.fn.loan.volts l.fn.loan.temps l.n l.fn.loan.buffer (keeps_of l.fn.self) l.fn.self.out
-      (l.n - l.counter) l.loan.buffer (keeps_of l.self) l.self.out;
+  going : Going l.fn.loan.lent l.fn.loan.volts l.fn.loan.temps l.n l.fn.loan.buffer (keeps_of l.fn.self)
+      l.fn.self.out.waits (l.n - l.counter) l.loan.buffer (keeps_of l.self) l.self.out.waits;
 }

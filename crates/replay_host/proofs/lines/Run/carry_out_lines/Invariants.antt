@@ -6,7 +6,7 @@ use Rattle.replay_host.proofs.lines.Run.carry_out_lines.Given as goal
 
 abbrev pub invariant-loop-at : goal.invariant-loop-at
 invariant-loop-at g l =
-    Left l.text l.last (world_of l.fn.self) l.fn.self.host.out l.at (world_of l.self) l.self.host.out
+    Left l.text l.last (world_of l.fn.self) l.fn.self.host.out.waits l.at (world_of l.self) l.self.host.out.waits
 
 abbrev pub decreases-loop-at : goal.decreases-loop-at
 decreases-loop-at g l = 65536 - l.at
