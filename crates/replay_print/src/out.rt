@@ -1,11 +1,12 @@
 // The output, by way of a buffer that is written out where it is full.
 ghost use Rattle.std.specs.Prelude.{◌≡◌, [], ◌∷◌, replicate};
-ghost use Rattle.replay_print.specs.Out.{Prints, out_of};
+ghost use Rattle.replay_print.specs.Out.{Prints, out_of, waits};
 
 use std::io::Write;
-use std::marker::Model;
 
 // The output that waits to be written, and where to. Any place may be the free one: at one past the buffer it is full.
+// A promise speaks of what waits, and not of where it is written. Stays without a model, so that it, and what holds it,
+// can be copied where the writer can.
 #[derive(Clone, Copy, Drop)]
 pub struct Out<W> {
     pub to: W,
@@ -13,23 +14,11 @@ pub struct Out<W> {
     pub at: usize,
 }
 
-// A promise speaks of what waits, and not of where it is written. The view keeps that too, so that an output can be
-// copied where its writer can.
-impl<W> Model for Out<W> {
-    ghost use Rattle.replay_print.specs.Out.{Outgoing, out_of};
-
-    ghost Value = { Outgoing W };
-
-    ghost view = { λ o. record { to = o.to; waits = out_of o.buf o.at } };
-
-    ghost inverse = { λ o. record { to = o.to; buf = o.waits.holds; at = o.waits.free } };
-}
-
 // Stays printing by methods, with no `Display` and `write!`: what those write is promised only where they answer `Ok`,
 // and each text here is promised on every call (`Prints`).
 impl<W: Write> Out<W> {
     pub fn new(to: W) -> Self
-        ensures { result.waits ≡ out_of (replicate 65536 0) 0 }
+        ensures { waits result ≡ out_of (replicate 65536 0) 0 }
     {
         Out {
             to,
@@ -43,7 +32,7 @@ impl<W: Write> Out<W> {
     #[cold]
     #[inline(never)]
     fn flush(&mut self)
-        ensures { self.new.waits ≡ self.old.waits }
+        ensures { waits self.new ≡ waits self.old }
     {
         if self.at <= self.buf.len() {
             let _ = self.to.write_all(&self.buf[..self.at]);
@@ -75,7 +64,7 @@ impl<W: Write> Out<W> {
 
     // What still waits, written out at the end.
     pub fn finish(&mut self)
-        ensures { self.new.waits ≡ self.old.waits }
+        ensures { waits self.new ≡ waits self.old }
     {
         self.flush();
     }
