@@ -6,7 +6,7 @@ use mathlib.Core.Bool.{Bool, true, ◌&&◌, and-true, and_assoc}
 use native.Mathlib.Numerals.{add-one}
 use native.Mathlib.Nat.{le_of_suc-le-suc, not-suc-le-zero}
 use lib.ListN.{length, get_or, take}
-use Rattle.std.proofs.lemmas.List.Recursion.{and_at}
+use Rattle.std.proofs.lemmas.Bool.{and_parts}
 use Rattle.cells.specs.Tables.{every}
 
 -- a turn of a walk: one cell more
@@ -21,7 +21,9 @@ every_more f (x ∷ xs) (suc i) d h =
     ∙ sym (and_assoc (f x) (every f (take i xs)) (f (get_or xs i d))))
 
 -- and what it says of each cell
-pub every_at : {A : Type 0} (f : A → Bool) (d : A) (xs : List A) (i : ℕ) → every f xs ≡ true → i < length xs
+pub every_at {ℓ} : {A : Type ℓ} (f : A → Bool) (d : A) (xs : List A) (i : ℕ) → every f xs ≡ true → i < length xs
     → f (get_or xs i d) ≡ true
 unfolding every
-every_at f d xs i t h = and_at (every f) f refl (λ _ _. refl) xs i d h t
+every_at f d [] i t h = absurd (not-suc-le-zero h)
+every_at f d (x ∷ xs) zero t h = (and_parts (f x) (every f xs) t).0
+every_at f d (x ∷ xs) (suc i) t h = every_at f d xs i (and_parts (f x) (every f xs) t).1 (le_of_suc-le-suc h)

@@ -5,6 +5,9 @@ ghost use Rattle.cells.specs.Tables.{tables_fit, every, cells_in_range};
 
 use crate::reading::{Reading, Unit};
 
+// The range of each cell, under the table's name too.
+pub use crate::reading::{LEAST_TEMPERATURE, MOST_TEMPERATURE, MOST_VOLTAGE};
+
 // The most cells that a table may hold.
 pub const MOST: usize = 255;
 

@@ -1,5 +1,5 @@
 -- The one table of message rows (01, "Identifier and message numbers"). A row holds PF, priority, length and PS.
-use Rattle.std.specs.Prelude.{ℕ, List, [], ◌∷◌}
+use Rattle.std.specs.Prelude.{ℕ, List, [], ◌∷◌, get_or}
 use Rattle.messages.specs.declared.table.Row.{Row}
 
 -- the columns of a row by name
@@ -122,3 +122,7 @@ rows =
     CIM ∷ CVM ∷ CMP ∷ CRM ∷ CCS ∷ CST ∷ CEM ∷ ACV ∷ ACT
     ∷ EIM ∷ EVM ∷ ECP ∷ ERM ∷ ECR ∷ ECS ∷ ESM ∷ EST ∷ EDM ∷ EEM
     ∷ PS ∷ CVS ∷ CTS ∷ FWS ∷ EC ∷ VOLTAGES ∷ TEMPERATURES ∷ []
+
+-- The row at a place; no message has the row of zeros that stands past the end
+abbrev pub row_at : ℕ → Row
+row_at place = get_or rows place (to_us 0 0)

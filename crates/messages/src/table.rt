@@ -1,6 +1,6 @@
 // The one table of message rows (01, "Identifier and message numbers"), a row a message by its name.
 ghost use Rattle.std.specs.Prelude.{◌≡◌};
-ghost use Rattle.messages.specs.Table.{pf_of, priority_of, length_of, broadcast_ps};
+ghost use Rattle.messages.specs.Table.{pf_of, priority_of, length_of, broadcast_ps, row_at};
 
 // A message: PF, priority, length (of a received one the least), and the PS of a broadcast (0 where PS is the target).
 // One line a message is what makes the table one to read, so a row has places and not names, and stays no plainer with
@@ -93,8 +93,11 @@ pub const VOLTAGES: Row = Row(0x31, 7, 8, 0);
 
 pub const TEMPERATURES: Row = Row(0x81, 7, 8, 0);
 
+// How many rows the table has.
+pub const COUNT: usize = 26;
+
 // All of them, in the table's order.
-pub const ROWS: [Row; 26] = [
+pub const ROWS: [Row; COUNT] = [
     CIM,
     CVM,
     CMP,
@@ -122,3 +125,10 @@ pub const ROWS: [Row; 26] = [
     VOLTAGES,
     TEMPERATURES,
 ];
+
+// The row at a place: the table is the paper's, row by row. Past it stands a row of zeros, which no message has.
+pub fn row_at(place: usize) -> Row
+    ensures { result ≡ row_at place }
+{
+    ROWS.get(place).copied().unwrap_or(Row(0, 0, 0, 0))
+}

@@ -1,9 +1,6 @@
 // Numbers that count up: of lines, and of accepted ticks.
 ghost use Rattle.std.specs.Prelude.{◌≡◌};
-ghost use Rattle.numbers.specs.Numbers.{answered};
 ghost use Rattle.replay_calls.specs.Counts.{next_number, count_after};
-
-use numbers::Refusal;
 
 // The next number; the last of all stays.
 #[tactic(auto, unfolding(crate::specs::Counts::next_number))]
@@ -13,10 +10,10 @@ pub fn next(n: u64) -> u64
     n.saturating_add(1)
 }
 
-// The ticks accepted after one that was answered: only one that is accepted counts.
+// The ticks accepted after one that was answered a number: only one that is accepted counts.
 #[tactic(auto, unfolding(crate::specs::Counts::count_after))]
-pub fn counted(answer: Result<usize, Refusal>, count: u64) -> u64
-    ensures { result ≡ count_after (answered answer) count }
+pub fn counted(number: u8, count: u64) -> u64
+    ensures { result ≡ count_after number count }
 {
-    if answer.is_ok() { next(count) } else { count }
+    if number == 0 { next(count) } else { count }
 }

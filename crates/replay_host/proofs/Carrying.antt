@@ -8,7 +8,7 @@ use borrow.Author.Tests.{lt-ltb}
 use lib.Dec.{ltb}
 use lib.IntN.{ℤ}
 use Rattle.replay_print.proofs.Laws.{prints_then, prints_eq, laid_append}
-use Rattle.replay_print.specs.Out.{Output, laid_of}
+use Rattle.replay_print.specs.Out.{Output, laid_of, waits}
 use Rattle.replay_script.specs.Clocks.{due_of}
 use Rattle.replay_script.specs.Lent.{lent_after}
 use Rattle.replay_script.specs.Lines.{asked_in, bytes_after, volts_after, temps_after}
@@ -175,10 +175,10 @@ module _ (text : List ℕ) (last : ℕ) where
 
     -- one more is done
     pub left_next : {W : Type 0} (at end : ℕ) {w : World} {mid new : Run W} → at < 65536 → at < last
-        → Left x from at w mid.host.out → at ≤ end → end ≡ line_end text at
-        → CarriesOut mid new (line_done text at w) → Left x from (end + 1) (world_of new) new.host.out
+        → Left x from at w (waits mid.host.out) → at ≤ end → end ≡ line_end text at
+        → CarriesOut mid new (line_done text at w) → Left x from (end + 1) (world_of new) (waits new.host.out)
     left_next at end {w} {mid} i j g h e a =
-        next_of g.most at (end + 1) w mid.host.out g.enough i j g.world g.printed (omega arith)
+        next_of g.most at (end + 1) w (waits mid.host.out) g.enough i j g.world g.printed (omega arith)
         (ap (λ (n : ℕ). n + 1) e)
         a.world
         a.prints.later
@@ -191,7 +191,7 @@ module _ (text : List ℕ) (last : ℕ) where
 
   -- none is left
   pub left_last : {W : Type 0} {old new : Run W} (at : ℕ) → (ltb at 65536 && ltb at last) ≡ false
-      → Left (world_of old) old.host.out at (world_of new) new.host.out
+      → Left (world_of old) (waits old.host.out) at (world_of new) (waits new.host.out)
       → CarriesOut old new (lines_done text last (world_of old))
   unfolding laid_of
   left_last {W} {old} {new} at e g =

@@ -12,7 +12,8 @@ use Rattle.controller.specs.Start.{start_of}
 use Rattle.controller.specs.declared.Controller.{Controller}
 use Rattle.replay_print.proofs.Laws.{prints_none, prints_then}
 use Rattle.replay_print.specs.Answers.{settings_line, no_controller_line}
-use Rattle.replay_print.specs.Out.{Output, Prints}
+use Rattle.replay_print.specs.Out.{Prints}
+use Rattle.replay_print.specs.declared.out.Out.{Out}
 use Rattle.replay_print.specs.declared.standings.Standing.{Standing}
 use Rattle.settings.specs.Write.{Written, written_of}
 use Rattle.settings.specs.declared.Settings.{Settings}
@@ -34,7 +35,7 @@ module _ {W : Type 0} where
   comes_first p a = record { kept = a.kept; prints = prints_then p a.prints }
 
   -- a controller that a call gave, and its standing printed where the call has changed it
-  pub enters : (h : Option Controller) {o : Output} {c : Controller} {n : ℕ} {z : Host W} {b : Standing}
+  pub enters : (h : Option Controller) {o : Out W} {c : Controller} {n : ℕ} {z : Host W} {b : Standing}
       → b ≡ standing_held h
       → Comes {W = W} (record { held = Some c; accepted = n; out = o }) z
       (standing_done b (record { held = Some c; accepted = n }))

@@ -14,7 +14,7 @@ use Rattle.numbers.specs.Numbers.{answered}
 use Rattle.controller.specs.declared.Controller.{Controller}
 use Rattle.controller.specs.Tick.{Ticked, ticked}
 use Rattle.replay_print.proofs.Laws.{laid_append}
-use Rattle.replay_print.specs.Out.{Output, laid_of, Prints}
+use Rattle.replay_print.specs.Out.{Output, laid_of, waits, Prints}
 use Rattle.replay_script.specs.declared.lent.Lent.{Lent}
 use Rattle.replay_calls.specs.Calls.{tick_accepted, tick_sent, tick_answer, buffer_ticked, TickLent}
 use Rattle.replay_calls.specs.Counts.{count_after}
@@ -95,9 +95,9 @@ module _ (l : Lent) (v : List ℕ) (t : List ℤ) where
 
     -- one more is done
     pub going_next : {W : Type 0} (left : ℕ) {buf later : List ℕ} {h r : Host W} → 0 < left
-        → Going n old x from left buf (keeps_of h) h.out
+        → Going n old x from left buf (keeps_of h) (waits h.out)
         → Comes h r (tick_done l v t buf (keeps_of h)) → later ≡ tick_buffer l v t buf h.held
-        → Going n old x from (left - 1) later (keeps_of r) r.out
+        → Going n old x from (left - 1) later (keeps_of r) (waits r.out)
     going_next zero b g a e = absurd (not-suc-le-zero b)
     going_next (suc m) b g a e =
         let s : suc m - 1 ≡ m = omega arith in
@@ -116,11 +116,11 @@ module _ {W : Type 0} where
   -- a tick of a loop, with what it is lent: one more is done, and only the buffer is another
   pub going_on : (l y : Loan) {z : Loan} {n : ℕ} {old : List ℕ} {x : Keeps} {from : Output} (left : ℕ) {h r : Host W}
       → 0 < left → y ≡ lending l y.buffer
-      → Going l.lent l.volts l.temps n old x from left y.buffer (keeps_of h) h.out
+      → Going l.lent l.volts l.temps n old x from left y.buffer (keeps_of h) (waits h.out)
       → Comes h r (tick_done y.lent y.volts y.temps y.buffer (keeps_of h))
       → z ≡ lending y (tick_buffer y.lent y.volts y.temps y.buffer h.held)
       → (z ≡ lending l z.buffer)
-      × Going l.lent l.volts l.temps n old x from (left - 1) z.buffer (keeps_of r) r.out
+      × Going l.lent l.volts l.temps n old x from (left - 1) z.buffer (keeps_of r) (waits r.out)
   going_on l y left b e g a f =
       let el = ap (λ (k : Loan). k.lent) e in
       let ev = ap (λ (k : Loan). k.volts) e in
@@ -131,7 +131,7 @@ module _ {W : Type 0} where
 
   -- none is left
   pub going_last : {l : Lent} {v : List ℕ} {t : List ℤ} {n : ℕ} {old buf : List ℕ} {h r : Host W}
-      → Going l v t n old (keeps_of h) h.out 0 buf (keeps_of r) r.out
+      → Going l v t n old (keeps_of h) (waits h.out) 0 buf (keeps_of r) (waits r.out)
       → Comes h r (ticks_done l v t n old (keeps_of h)) × (buf ≡ ticks_buffer l v t n old (keeps_of h))
   unfolding ticks_done ticks_buffer laid_of
   going_last g = (record { kept = g.kept; prints = record { later = g.printed } }, g.buffer)

@@ -14,10 +14,10 @@ use replay_print::standings::Standing;
 use std::io::Write;
 
 // The buffer of which each tick and write is lent the first bytes.
-pub type Buffer = [u8; 4096];
+pub type Buffer = replay_print::Buffer;
 
 // The controller in use, once a settings record was accepted, the ticks that it has accepted, and the output.
-#[derive(Drop)]
+#[derive(Clone, Copy, Drop)]
 pub struct Host<W> {
     pub held: Option<Controller>,
     pub accepted: u64,
@@ -25,7 +25,7 @@ pub struct Host<W> {
 }
 
 // The number that an answer carries.
-fn number<T>(answer: &Result<T, Refusal>) -> u8
+pub(crate) fn number<T>(answer: &Result<T, Refusal>) -> u8
     ensures { result ≡ answered answer.now }
 {
     match answer {

@@ -16,7 +16,7 @@ use std::io::Write;
 
 // All that a run keeps from line to line: the controller with the output, what ticks are lent, a log's clock, the
 // line's number, and the bytes that a line gave.
-#[derive(Drop)]
+#[derive(Clone, Copy, Drop)]
 pub struct Run<W> {
     pub host: Host<W>,
     pub loan: Loan,

@@ -6,7 +6,7 @@ ghost use Rattle.replay_host.specs.Host.{keeps_of, Comes};
 ghost use Rattle.replay_host.specs.Ticks.{lending, bytes_of, tick_text};
 ghost use Rattle.replay_host.specs.Ticks.{tick_done, tick_buffer, ticks_done, ticks_buffer};
 
-use crate::held::{Buffer, Host};
+use crate::held::{Buffer, Host, number};
 use numbers::Refusal;
 use replay_calls::{calls, counts};
 use replay_print::out::Out;
@@ -15,7 +15,7 @@ use replay_script::lent::{Lent, Temperatures, Voltages};
 use std::io::Write;
 
 // What each tick is lent: the readings, and the first so many of two tables and of a buffer.
-#[derive(Drop)]
+#[derive(Clone, Copy)]
 pub struct Loan {
     pub lent: Lent,
     pub volts: Voltages,
@@ -49,7 +49,7 @@ impl<W: Write> Host<W> {
         };
         let answer = calls::tick(c, loan.lent, &loan.volts, &loan.temps, &mut loan.buffer);
         print(&mut self.out, answer, self.accepted, &loan.buffer);
-        self.accepted = counts::counted(answer, self.accepted);
+        self.accepted = counts::counted(number(&answer), self.accepted);
         self.changed(before);
     }
 

@@ -6,7 +6,8 @@ use mathlib.Core.Path.{◌≡◌, refl, sym, ◌∙◌, ap}
 use mathlib.Core.List.{List, [], ◌∷◌, ◌++◌, append-nil, append_assoc}
 use lib.ListN.{length, take, get_or, replicate}
 use lib.Seq.{take-suc}
-use Rattle.replay_print.specs.Out.{Output, put_of, laid_of, Prints}
+use Rattle.replay_print.specs.Out.{Output, put_of, laid_of, waits, Prints}
+use Rattle.replay_print.specs.declared.out.Out.{Out}
 use Rattle.replay_print.specs.Text.{hex_of, hexes_of}
 
 -- one text after another is the two as one
@@ -15,19 +16,20 @@ unfolding laid_of
 laid_append [] ys x = refl
 laid_append (b ∷ xs) ys x = laid_append xs ys (put_of b x)
 
--- no text
-pub prints_none : (x : Output) → Prints x x []
-unfolding laid_of
-prints_none x = record { later = refl }
+module _ {W : Type 0} where
+  -- no text
+  pub prints_none : (x : Out W) → Prints x x []
+  unfolding laid_of
+  prints_none x = record { later = refl }
 
--- one text, then another
-pub prints_then : {x y z : Output} {xs ys : List ℕ} → Prints x y xs → Prints y z ys → Prints x z (xs ++ ys)
-prints_then {x} {y} {z} {xs} {ys} a b =
-    record { later = b.later ∙ (ap (laid_of ys) a.later ∙ sym (laid_append xs ys x)) }
+  -- one text, then another
+  pub prints_then : {x y z : Out W} {xs ys : List ℕ} → Prints x y xs → Prints y z ys → Prints x z (xs ++ ys)
+  prints_then {x} {y} {z} {xs} {ys} a b =
+      record { later = b.later ∙ (ap (laid_of ys) a.later ∙ sym (laid_append xs ys (waits x))) }
 
--- the same text, known by another name
-pub prints_eq : {x y : Output} {xs ys : List ℕ} → Prints x y xs → xs ≡ ys → Prints x y ys
-prints_eq a e = rw (← e) a
+  -- the same text, known by another name
+  pub prints_eq : {x y : Out W} {xs ys : List ℕ} → Prints x y xs → xs ≡ ys → Prints x y ys
+  prints_eq a e = rw (← e) a
 
 -- a loop over a text prints one byte more
 pub laid_next : (s : List ℕ) (i : ℕ) (x : Output) → i < length s

@@ -1,4 +1,5 @@
 pub mod Laws
 pub mod Spelled
 pub mod SentLines
+pub mod StandingNumbers
 pub mod WorkedRows

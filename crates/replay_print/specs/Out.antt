@@ -1,6 +1,7 @@
 -- The output waits in a buffer. Each byte goes to the free place; a buffer that is full is written out, and is filled
 -- from its start again. Nothing here depends on what the system does with the bytes written out.
 use Rattle.std.specs.Prelude.{ℕ, ◌+◌, ◌≡◌, cond, List, [], ◌∷◌, ltb, set}
+use Rattle.replay_print.specs.declared.out.Out.{Out}
 
 -- the bytes of the buffer: the length of `Out` in the code
 abbrev pub out_size : ℕ
@@ -28,7 +29,11 @@ unfoldable pub laid_of : List ℕ → Output → Output
 laid_of [] x = x
 laid_of (b ∷ text) x = laid_of text (put_of b x)
 
+-- what waits in an output of the code
+abbrev pub waits : {W : Type 0} → Out W → Output
+waits o = out_of o.buf o.at
+
 -- what it is to print a text: the output `old` becomes `new` by the bytes of the text laid one after the other and by
 -- nothing else
-pub record Prints (old new : Output) (text : List ℕ) : Type 0 where
-  pub later : new ≡ laid_of text old
+pub record Prints {W : Type 0} (old new : Out W) (text : List ℕ) : Type 0 where
+  pub later : waits new ≡ laid_of text (waits old)

@@ -1,5 +1,5 @@
 -- The line of a session's standing (docs/REPLAY.md, "Output"): `state NAME` or `state NAME STATION`.
-use Rattle.std.specs.Prelude.{ℕ, Bool, true, false, cond, ◌&&◌, List, [], ◌++◌, eqb}
+use Rattle.std.specs.Prelude.{ℕ, ◌+◌, ◌-◌, Bool, true, false, cond, ◌&&◌, List, [], ◌∷◌, ◌++◌, eqb, get_or}
 use Rattle.session_states.specs.declared.states.State.{State}
 use Rattle.session_states.specs.declared.states.State.TheVariants as state
 use Rattle.replay_print.specs.declared.standings.Name.{Name}
@@ -17,7 +17,7 @@ name_text name.Parameters = quoted "Parameters"
 name_text name.Ready = quoted "Ready"
 name_text name.Charging = quoted "Charging"
 name_text name.Stopping = quoted "Stopping"
-name_text name.Error = quoted "Error"
+name_text (name.Error past) = quoted "Error"
 
 -- a session's state and station; in Idle it has no station
 unfoldable pub standing_of : State → ℕ → Standing
@@ -28,7 +28,23 @@ standing_of state.Parameters station = In name.Parameters station
 standing_of (state.Ready accepted maximum) station = In name.Ready station
 standing_of (state.Charging p) station = In name.Charging station
 standing_of (state.Stopping acknowledged est) station = In name.Stopping station
-standing_of state.Error station = In name.Error station
+standing_of state.Error station = In (name.Error 0) station
+
+-- the same by a number: the states in this order, from 0 on, and 7 is Error. Each number past it, which no state has,
+-- is an Error of its own
+unfoldable pub standing_numbered : ℕ → ℕ → Standing
+standing_numbered n station =
+    get_or
+    (Idle
+    ∷ In name.Offered station
+    ∷ In name.Unverified station
+    ∷ In name.Parameters station
+    ∷ In name.Ready station
+    ∷ In name.Charging station
+    ∷ In name.Stopping station
+    ∷ [])
+    n
+    (In (name.Error (n - 7)) station)
 
 -- a state's name and, unless it is Idle, the station's address as two hex digits
 unfoldable pub standing_text : Standing → List ℕ
@@ -47,7 +63,7 @@ name_number name.Parameters = 3
 name_number name.Ready = 4
 name_number name.Charging = 5
 name_number name.Stopping = 6
-name_number name.Error = 7
+name_number (name.Error past) = 7 + past
 
 -- two standings of which the second need not be printed after the first: one state and, unless it is Idle, one station
 unfoldable pub same_standing : Standing → Standing → Bool

@@ -8,3 +8,6 @@ pub mod frames;
 pub mod numerals;
 pub mod out;
 pub mod standings;
+
+// The buffer of which each tick and write is lent the first bytes.
+pub type Buffer = [u8; 4096];

@@ -1,32 +1,24 @@
 // The output, by way of a buffer that is written out where it is full.
 ghost use Rattle.std.specs.Prelude.{◌≡◌, [], ◌∷◌, replicate};
-ghost use Rattle.replay_print.specs.Out.{Prints, out_of};
+ghost use Rattle.replay_print.specs.Out.{Prints, out_of, waits};
 
 use std::io::Write;
-use std::marker::Model;
 
 // The output that waits to be written, and where to. Any place may be the free one: at one past the buffer it is full.
-#[derive(Drop)]
+// A promise speaks of what waits, and not of where it is written. Stays without a model, so that it, and what holds it,
+// can be copied where the writer can.
+#[derive(Clone, Copy, Drop)]
 pub struct Out<W> {
     pub to: W,
     pub buf: [u8; 65536],
     pub at: usize,
 }
 
-// A promise speaks of what waits, and not of where it is written.
-impl<W> Model for Out<W> {
-    ghost use Rattle.replay_print.specs.Out.{Output, out_of};
-
-    ghost Value = { Output };
-
-    ghost view = { λ o. out_of o.buf o.at };
-}
-
 // Stays printing by methods, with no `Display` and `write!`: what those write is promised only where they answer `Ok`,
 // and each text here is promised on every call (`Prints`).
 impl<W: Write> Out<W> {
     pub fn new(to: W) -> Self
-        ensures { result ≡ out_of (replicate 65536 0) 0 }
+        ensures { waits result ≡ out_of (replicate 65536 0) 0 }
     {
         Out {
             to,
@@ -35,9 +27,12 @@ impl<W: Write> Out<W> {
         }
     }
 
-    // What waits, written out. Whether that succeeds changes nothing here.
+    // What waits, written out. Whether that succeeds changes nothing here. It stays apart, so that laying a byte, of which
+    // most write nothing out, stays short.
+    #[cold]
+    #[inline(never)]
     fn flush(&mut self)
-        ensures { self.new ≡ self.old }
+        ensures { waits self.new ≡ waits self.old }
     {
         if self.at <= self.buf.len() {
             let _ = self.to.write_all(&self.buf[..self.at]);
@@ -69,7 +64,7 @@ impl<W: Write> Out<W> {
 
     // What still waits, written out at the end.
     pub fn finish(&mut self)
-        ensures { self.new ≡ self.old }
+        ensures { waits self.new ≡ waits self.old }
     {
         self.flush();
     }

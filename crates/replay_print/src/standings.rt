@@ -1,7 +1,7 @@
 // A session's standing: its state's name, and its station.
 ghost use Rattle.std.specs.Prelude.{◌≡◌};
 ghost use Rattle.replay_print.specs.Out.{Prints};
-ghost use Rattle.replay_print.specs.Standings.{name_text, standing_of, same_standing};
+ghost use Rattle.replay_print.specs.Standings.{name_text, standing_of, standing_numbered, same_standing};
 ghost use Rattle.replay_print.specs.Standings.{standing_text, standing_line, changed_text};
 
 use crate::out::Out;
@@ -17,7 +17,9 @@ pub enum Name {
     Ready,
     Charging,
     Stopping,
-    Error,
+    // By how much its number is past that of the state Error: 0 for the state. No state has a number past it; all are
+    // printed alike, and no two are the same.
+    Error(u8),
 }
 
 // A session's state and station, as they are printed. Stays an enum and no option: Idle is a state with a name that is
@@ -39,7 +41,7 @@ impl Name {
             Name::Ready => b"Ready",
             Name::Charging => b"Charging",
             Name::Stopping => b"Stopping",
-            Name::Error => b"Error",
+            Name::Error(_) => b"Error",
         }
     }
 }
@@ -57,9 +59,26 @@ impl Standing {
             State::Ready { .. } => Name::Ready,
             State::Charging(_) => Name::Charging,
             State::Stopping { .. } => Name::Stopping,
-            State::Error => Name::Error,
+            State::Error => Name::Error(0),
         };
         Standing::In(name, station)
+    }
+
+    // The standing by the number of a state, of which any number may be asked: Idle is 0, and has no station.
+    #[tactic(auto, unfolding(crate::specs::Standings::standing_numbered))]
+    pub fn numbered(state: u8, station: u8) -> Standing
+        ensures { result ≡ standing_numbered state station }
+    {
+        match state {
+            0 => Standing::Idle,
+            1 => Standing::In(Name::Offered, station),
+            2 => Standing::In(Name::Unverified, station),
+            3 => Standing::In(Name::Parameters, station),
+            4 => Standing::In(Name::Ready, station),
+            5 => Standing::In(Name::Charging, station),
+            6 => Standing::In(Name::Stopping, station),
+            _ => Standing::In(Name::Error(state - 7), station),
+        }
     }
 
     // Whether it need not be printed after another: the derived equality, under the definition's name.

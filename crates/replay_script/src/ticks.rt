@@ -24,15 +24,16 @@ pub fn ticks(text: &[u8], past: usize) -> Option<Asked>
     if words::is_end(text, past) {
         return Some(Asked::Ticks(1));
     }
-    only_up_to(text, past, MOST_TICKS).map(Asked::Ticks)
+    let (n, _) = only_up_to(text, past, MOST_TICKS);
+    n.ok().map(Asked::Ticks)
 }
 
 // The one number of a line as a buffer's length.
 pub fn read_length(text: &[u8], past: usize) -> Option<usize>
     ensures { result ≡ length_in text.now past }
 {
-    let n = only_up_to(text, past, MOST_ROOM)?;
-    Some(n as usize)
+    let (n, _) = only_up_to(text, past, MOST_ROOM);
+    Some(n.ok()? as usize)
 }
 
 // The length of a buffer.

@@ -1,7 +1,7 @@
 -- A decimal number is digits, with a sign before them or none (docs/REPLAY.md, "Input").
 use Prim.Native.Char.{code}
 use Rattle.std.specs.Prelude.{ℕ, Bool, cond, not, ◌||◌, List, leb, eqb, ℤ, pos, negsuc, neg_ℤ}
-use Rattle.std.specs.Prelude.{Option, None, Some, option_map, option_and_then}
+use Rattle.std.specs.Prelude.{Option, None, Some, option_map, option_and_then, Result, Ok, Err}
 use Rattle.replay_text.specs.declared.words.Word.{Word}
 use Rattle.replay_text.specs.declared.digits.Digits.{Digits}
 use Rattle.replay_text.specs.Chars.{byte_at, next_place}
@@ -68,3 +68,35 @@ signed_in text from = read_as of_16_bits text from
 -- the next word as a number from 0 up to a bound, where the line has no word after it
 abbrev pub only_in : List ℕ → ℕ → ℕ → Option ℕ
 only_in text from most = only_as (up_to most) text from
+
+-- a number, or none, that is to lie from 0 up to a bound: `Ok` has it where it does. Else `Err` has the number itself
+-- where it is above the bound, and 0 where it is below 0 or none
+unfoldable pub within : ℕ → Option ℤ → Result ℕ ℕ
+within most (Some (pos n)) = cond (leb n most) (Ok n) (Err n)
+within most (Some (negsuc n)) = Err 0
+within most None = Err 0
+
+-- a number, or none, that is to be one of 16 bits with its sign, from -32768 to 32767: `Ok` has it where it is. Else
+-- `Err` has -32768 where it is below these, and 0 where it is above or none
+unfoldable pub in_16_bits : Option ℤ → Result ℤ ℤ
+in_16_bits (Some (pos n)) = cond (leb n 32767) (Ok (pos n)) (Err (pos 0))
+in_16_bits (Some (negsuc n)) = cond (leb n 32767) (Ok (negsuc n)) (Err (neg_ℤ (pos 32768)))
+in_16_bits None = Err (pos 0)
+
+-- the next word as a number from 0 up to a bound, and the place past the word, whatever it is
+unfoldable pub next_within : List ℕ → ℕ → ℕ → Result ℕ ℕ × ℕ
+next_within text from most = (within most (number_in text (next_word text from)), (next_word text from).to)
+
+-- the next word as a number of 16 bits with its sign, and the place past the word, whatever it is
+unfoldable pub next_in_16_bits : List ℕ → ℕ → Result ℤ ℤ × ℕ
+next_in_16_bits text from = (in_16_bits (number_in text (next_word text from)), (next_word text from).to)
+
+-- a number that is good only where its line ends after it: else `Err` has it
+abbrev pub good_at_end : Bool → Result ℕ ℕ → Result ℕ ℕ
+good_at_end end (Ok n) = cond end (Ok n) (Err n)
+good_at_end end (Err n) = Err n
+
+-- the next word as a number from 0 up to a bound, good only where the line has no word after it, and the place past it
+unfoldable pub only_within : List ℕ → ℕ → ℕ → Result ℕ ℕ × ℕ
+only_within text from most =
+    (good_at_end (is_end text (next_within text from most).1) (next_within text from most).0, (next_within text from most).1)

@@ -42,19 +42,17 @@ fn rest(text: &[u8], from: usize) -> &[u8]
     text.get(from..).unwrap_or(&[])
 }
 
-// The first place from one on where a character does not pass a test; the text's end where all do. Stays a place that goes
-// up in a `for`: `position` answers nothing where all pass, and the end would have to be worked out beside it.
+// The first place from one on where a character does not pass a test; the text's end where all do. Stays a `for` over
+// places: `position` over the rest of the text answers nothing where all pass, and would cut the text at each walk.
 fn past_all<F: Fn(u8) -> bool>(text: &[u8], from: usize, passes: F) -> usize
     ghost test: { ℕ → Bool }
     requires { Tests F.pre F.post passes test }
     ensures { result ≡ past_all test text.now from }
 {
-    let mut at = from;
-    for b in rest(text, from) {
-        if !passes(*b) {
-            break;
+    for at in from..text.len() {
+        if !passes(text[at]) {
+            return at;
         }
-        at += 1;
     }
-    at
+    from.max(text.len())
 }

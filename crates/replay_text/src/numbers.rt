@@ -1,6 +1,8 @@
 // The decimal numbers that stand in a line.
 ghost use Rattle.std.specs.Prelude.{◌≡◌, ℤ, Option};
+ghost use Rattle.std.specs.Result.{result_ok};
 ghost use Rattle.replay_text.specs.Numbers.{past_sign, number_in, up_to, of_16_bits, read_as, only_as, only_in};
+ghost use Rattle.replay_text.specs.Numbers.{within, in_16_bits, next_within, next_in_16_bits, only_within};
 
 use crate::words::Word;
 use crate::{after, byte_at, digits, words};
@@ -79,7 +81,9 @@ fn read_number(text: &[u8], w: Word) -> Option<i64>
     }
 }
 
-// The next word as a number, and the place past it.
+// The next word as a number, and the place past it. Always inlined, as each number of a table asks for it: its answer then
+// does not go by way of memory.
+#[inline(always)]
 #[tactic(auto, unfolding(crate::specs::Numbers::read_as))]
 pub fn next_number<T: Number>(text: &[u8], from: usize) -> Option<(T, usize)>
     ensures { result ≡ read_as T.of text.now from }
@@ -102,11 +106,57 @@ pub fn only_number<T: Number>(text: &[u8], from: usize) -> Option<T>
     }
 }
 
-// The one number from a place to the end of the line, from 0 up to so much.
-#[tactic(auto, using(crate::proofs::Conversions::only_tested))]
-pub fn only_up_to(text: &[u8], from: usize, most: u64) -> Option<u64>
-    ensures { result ≡ only_in text.now from most }
+// A number, or none, that is to lie from 0 up to so much. Where it does not, `Err` has the number itself where it is
+// above that, and 0 where it is below 0 or none.
+#[tactic(auto, unfolding(crate::specs::Numbers::within, crate::specs::Numbers::up_to))]
+fn within(x: Option<i64>, most: u64) -> Result<u64, u64>
+    ensures { result ≡ within most x }
 {
-    let x = only_number(text, from)?;
-    if x <= most { Some(x) } else { None }
+    let Some(x) = x.and_then(u64::of) else {
+        return Err(0);
+    };
+    if x <= most { Ok(x) } else { Err(x) }
+}
+
+// A number, or none, that is to be one of 16 bits with its sign. Where it is not, `Err` has -32768 where it is below
+// these, and 0 where it is above or none.
+#[tactic(auto, unfolding(crate::specs::Numbers::in_16_bits, crate::specs::Numbers::of_16_bits))]
+fn in_16_bits(x: Option<i64>) -> Result<i16, i16>
+    ensures { result ≡ in_16_bits x }
+{
+    let Some(x) = x else {
+        return Err(0);
+    };
+    i16::of(x).ok_or(if x < 0 { i16::MIN } else { 0 })
+}
+
+// The next word as a number from 0 up to so much, as `within` tells it, and the place past the word, whatever it is.
+#[tactic(auto, unfolding(crate::specs::Numbers::next_within))]
+pub fn next_up_to(text: &[u8], from: usize, most: u64) -> (Result<u64, u64>, usize)
+    ensures { result ≡ next_within text.now from most }
+{
+    let w = words::next_word(text, from);
+    (within(read_number(text, w), most), w.to)
+}
+
+// The next word as a number of 16 bits with its sign, as `in_16_bits` tells it, and the place past the word likewise.
+#[tactic(auto, unfolding(crate::specs::Numbers::next_in_16_bits))]
+pub fn next_signed(text: &[u8], from: usize) -> (Result<i16, i16>, usize)
+    ensures { result ≡ next_in_16_bits text.now from }
+{
+    let w = words::next_word(text, from);
+    (in_16_bits(read_number(text, w)), w.to)
+}
+
+// The one number from a place to the end of the line, from 0 up to so much, and the place past its word. Where another
+// word follows, `Err` has the number.
+#[tactic(auto, using(crate::proofs::Conversions::only_ok), unfolding(crate::specs::Numbers::only_within))]
+pub fn only_up_to(text: &[u8], from: usize, most: u64) -> (Result<u64, u64>, usize)
+    ensures told { result ≡ only_within text.now from most }
+    ensures number { result_ok result.0 ≡ only_in text.now from most }
+{
+    match next_up_to(text, from, most) {
+        (Ok(x), at) if !words::is_end(text, at) => (Err(x), at),
+        told => told,
+    }
 }

@@ -13,7 +13,16 @@ use Rattle.session_states.specs.Limits.{first_ecp}
 use Rattle.session_by_tick.specs.declared.Turn.{Turn}
 use Rattle.session_by_tick.specs.declared.Turn.TheVariants.{On, Enter, Farewell, End}
 use Rattle.session_frames.specs.Layouts.{eim_of, evm_of, ecp_of, erm_of, ecr_of, ecs_of, esm_of, est_frame, edm_of, eem_of}
+use Rattle.session.specs.declared.ChargeFrames.{ChargeFrames}
+use Rattle.session.specs.declared.ChargeFrames.TheVariants.{Nothing, One, Two, Three}
 use Rattle.session.specs.declared.Session.{Session}
+
+-- the frames as a list
+abbrev pub frame_list : ChargeFrames → List Frame
+frame_list Nothing = []
+frame_list (One a) = a ∷ []
+frame_list (Two a b) = a ∷ b ∷ []
+frame_list (Three a b c) = a ∷ b ∷ c ∷ []
 
 unfoldable pub is_fifth : ℕ → Bool
 is_fifth count = eqb (count % 5) 0

@@ -1,6 +1,6 @@
 // Which frames a tick sends to the station (01, "Session by tick", "Frames").
-ghost use Rattle.std.specs.Prelude.{◌≡◌, ◌≤◌, length, [], ◌∷◌};
-ghost use Rattle.session.specs.Frames.{is_fifth, each5, parameters_frames, charging_frames, est_bytes, stopping_frames, frames_in, frames_of};
+ghost use Rattle.std.specs.Prelude.{◌≡◌, [], ◌∷◌};
+ghost use Rattle.session.specs.Frames.{frame_list, is_fifth, each5, parameters_frames, charging_frames, est_bytes, stopping_frames, frames_in, frames_of};
 
 use crate::{ChargeFrames, Session};
 use frames::Frame;
@@ -9,14 +9,6 @@ use session_frames::ToStation;
 use session_states::limits;
 use session_states::phases::Phase;
 use session_states::states::{Est, State};
-
-// The frames of a slice.
-fn list(frames: &[Frame]) -> ChargeFrames
-    requires { length frames.now ≤ 3 }
-    ensures { result.items ≡ frames.now }
-{
-    ChargeFrames::try_from(frames).unwrap()
-}
 
 #[tactic(auto, unfolding(crate::specs::Frames::is_fifth))]
 fn is_fifth(count: u16) -> bool
@@ -27,12 +19,12 @@ fn is_fifth(count: u16) -> bool
 
 #[tactic(auto, unfolding(crate::specs::Frames::each5))]
 fn one_each_5(count: u16, a: Frame) -> ChargeFrames
-    ensures { result.items ≡ each5 count (a ∷ []) }
+    ensures { frame_list result ≡ each5 count (a ∷ []) }
 {
     if is_fifth(count) {
-        list(&[a])
+        ChargeFrames::One(a)
     } else {
-        list(&[])
+        ChargeFrames::Nothing
     }
 }
 
@@ -56,30 +48,30 @@ impl Sending<'_> {
 
     #[tactic(auto, unfolding(crate::specs::Frames::parameters_frames))]
     fn parameters(&self) -> ChargeFrames
-        ensures { result.items
+        ensures { frame_list result
             ≡ parameters_frames self.now.tick.now.settings self.now.tick.now.readings self.now.station self.now.count }
     {
         if self.count == 0 {
-            list(&[self.to().evm(self.tick.readings, true)])
+            ChargeFrames::One(self.to().evm(self.tick.readings, true))
         } else if self.count % 10 == limits::FIRST_ECP {
-            list(&[self.to().ecp()])
+            ChargeFrames::One(self.to().ecp())
         } else {
-            list(&[])
+            ChargeFrames::Nothing
         }
     }
 
     #[tactic(auto, unfolding(crate::specs::Frames::charging_frames, crate::specs::Frames::each5))]
     fn charging(&self, p: Phase) -> ChargeFrames
         ensures { let t = self.now.tick.now in
-            result.items ≡ charging_frames t.settings t.readings t.cells self.now.station self.now.count p }
+            frame_list result ≡ charging_frames t.settings t.readings t.cells self.now.station self.now.count p }
     {
         let to = self.to();
         let cells = self.tick.cells;
         let ecr = to.ecr(cells, p);
         if is_fifth(self.count) {
-            list(&[ecr, to.ecs(self.tick.readings, cells), to.esm(cells)])
+            ChargeFrames::Three(ecr, to.ecs(self.tick.readings, cells), to.esm(cells))
         } else {
-            list(&[ecr])
+            ChargeFrames::One(ecr)
         }
     }
 
@@ -96,14 +88,14 @@ impl Sending<'_> {
     #[tactic(auto, unfolding(crate::specs::Frames::stopping_frames, crate::specs::Frames::each5))]
     fn stopping(&self, acknowledged: bool, est: Option<Est>) -> ChargeFrames
         ensures { let t = self.now.tick.now in
-            result.items
+            frame_list result
             ≡ stopping_frames t.settings t.readings t.cells self.now.station self.now.count acknowledged est }
     {
         let f = self.est(acknowledged, est);
         if is_fifth(self.count) {
-            list(&[f, self.to().edm(self.tick.readings, self.tick.cells)])
+            ChargeFrames::Two(f, self.to().edm(self.tick.readings, self.tick.cells))
         } else {
-            list(&[f])
+            ChargeFrames::One(f)
         }
     }
 
@@ -111,11 +103,11 @@ impl Sending<'_> {
     #[tactic(auto, unfolding(crate::specs::Frames::frames_in))]
     fn in_state(&self, state: State) -> ChargeFrames
         ensures { let t = self.now.tick.now in
-            result.items ≡ frames_in t.settings t.readings t.cells self.now.station self.now.count state }
+            frame_list result ≡ frames_in t.settings t.readings t.cells self.now.station self.now.count state }
     {
         let count = self.count;
         match state {
-            State::Idle => list(&[]),
+            State::Idle => ChargeFrames::Nothing,
             State::Offered => one_each_5(count, self.to().eim(true)),
             State::Unverified => one_each_5(count, self.to().evm(self.tick.readings, false)),
             State::Parameters => self.parameters(),
@@ -131,7 +123,7 @@ impl Sending<'_> {
 // state.
 #[tactic(auto, unfolding(crate::specs::Frames::frames_of))]
 pub fn sent(tick: &Tick, station: u8, t: Turn, s: Session) -> ChargeFrames
-    ensures { result.items
+    ensures { frame_list result
         ≡ frames_of tick.now.settings tick.now.readings tick.now.cells station t s }
 {
     if let Turn::Farewell = t {
@@ -139,7 +131,7 @@ pub fn sent(tick: &Tick, station: u8, t: Turn, s: Session) -> ChargeFrames
             settings: tick.settings,
             station,
         };
-        return list(&[to.eim(false)]);
+        return ChargeFrames::One(to.eim(false));
     }
     let sending = Sending {
         tick,

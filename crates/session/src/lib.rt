@@ -6,9 +6,9 @@
 ghost use Rattle.std.specs.Prelude.{◌≡◌};
 ghost use Rattle.session.specs.Session.{idle_session, begun, opened};
 ghost use Rattle.session.specs.Message.{told, message_of};
+ghost use Rattle.session.specs.Frames.{frame_list};
 ghost use Rattle.session.specs.Tick.{tick_of, sent_of};
 
-use arrayvec::ArrayVec;
 use charge_messages::ChargeMessage;
 use frames::Frame;
 use numbers::Refusal;
@@ -38,11 +38,18 @@ pub struct Taken {
     pub session: Session,
 }
 
-// The frames of a tick to the station: at most three.
-pub type ChargeFrames = ArrayVec<Frame, 3>;
+// The frames of a tick to the station: at most three. An enum and no `ArrayVec`, which cannot be copied: what a tick comes
+// to is a value, as a session is.
+#[derive(Clone, Copy)]
+pub enum ChargeFrames {
+    Nothing,
+    One(Frame),
+    Two(Frame, Frame),
+    Three(Frame, Frame, Frame),
+}
 
 // What a tick comes to: the next session, and the frames it sends.
-#[derive(Drop)]
+#[derive(Clone, Copy)]
 pub struct Ticked {
     pub session: Session,
     pub frames: ChargeFrames,
@@ -101,7 +108,7 @@ impl Session {
     #[tactic(auto, unfolding(crate::specs::Tick::tick_of, crate::specs::Tick::sent_of, crate::specs::Tick::turn_in))]
     pub fn tick(self, tick: &Tick) -> Ticked
         ensures next { result.session ≡ tick_of tick.now.settings tick.now.readings tick.now.cells self }
-        ensures sent { result.frames.items ≡ sent_of tick.now.settings tick.now.readings tick.now.cells self }
+        ensures sent { frame_list result.frames ≡ sent_of tick.now.settings tick.now.readings tick.now.cells self }
     {
         let t = tick.turn(self.state, self.count, self.silence);
         let turned = self.turned(t);

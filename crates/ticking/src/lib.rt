@@ -8,6 +8,7 @@ ghost use Rattle.std.specs.Option.{option_to_list};
 ghost use Rattle.std.specs.Prelude.{◌++◌, ◌+◌, ◌*◌, ◌≤◌, length};
 ghost use Rattle.frames.specs.Frame.{record_size};
 ghost use Rattle.frames.specs.InnerSent.{Sent};
+ghost use Rattle.session.specs.Frames.{frame_list};
 ghost use Rattle.broadcasts.specs.Sendings.{broadcast_at};
 
 use broadcasts::Broadcasts;
@@ -17,6 +18,19 @@ use frames::Frame;
 use readings::Readings;
 use session::ChargeFrames;
 use settings::Settings;
+
+// The session's frames: at most three.
+fn charge(f: &ChargeFrames, buf: &mut [u8], at: usize) -> usize
+    requires { at + 3 * record_size ≤ length buf.old }
+    ensures { Sent 3 buf.old buf.new at result (frame_list f.now) }
+{
+    match *f {
+        ChargeFrames::Nothing => at,
+        ChargeFrames::One(a) => frames::send_all(&[a], buf, at),
+        ChargeFrames::Two(a, b) => frames::send_all(&[a, b], buf, at),
+        ChargeFrames::Three(a, b, c) => frames::send_all(&[a, b, c], buf, at),
+    }
+}
 
 // The broadcasts, where they are due.
 fn broadcast(x: Settings, beat: Beat, r: Readings, c: Accepted, buf: &mut [u8], at: usize) -> usize
@@ -44,10 +58,10 @@ pub fn lay(
 ) -> usize
     requires { 9 * record_size ≤ length buf.old }
     ensures { Sent 9 buf.old buf.new 0 result
-        (charged.now.items
+        (frame_list charged.now
         ++ (broadcast_at beat.tick x.own x.versions r c.cells ++ option_to_list cell)) }
 {
-    let a = frames::send_all(charged.as_slice(), buf, 0);
+    let a = charge(charged, buf, 0);
     let b = broadcast(x, beat, r, c, buf, a);
     match cell {
         Some(frame) => frame.send(buf, b),

@@ -1,15 +1,13 @@
 -- The three parts are laid one after the other.
 use Rattle.std.proofs.Common.{arith}
-use Rattle.frames.proofs.Laws.{sent_no_more, sent_then, sent_most, sent_eq}
+use Rattle.frames.proofs.Laws.{sent_no_more, sent_then, sent_most}
 use Rattle.ticking.proofs.lay.Goals as goal
 
 pub returns-in-Some : goal.returns-in-Some
 returns-in-Some c =
-    let charged = sent_most (sent_eq c.send_all-a.ensures c.as_slice.ensures.value) 3 c.as_slice.ensures.fits in
-    rw c.in-Some.is (sent_then charged (sent_then c.broadcast-b.ensures c.send.ensures))
+    rw c.in-Some.is (sent_then c.charge-a.ensures (sent_then c.broadcast-b.ensures c.send.ensures))
 
 pub returns-in-None : goal.returns-in-None
 returns-in-None c =
-    let charged = sent_most (sent_eq c.send_all-a.ensures c.as_slice.ensures.value) 3 c.as_slice.ensures.fits in
     let b = c.broadcast-b.ensures in
-    rw c.in-None.is (sent_then charged (sent_then b (sent_most (sent_no_more b) 1 (omega arith))))
+    rw c.in-None.is (sent_then c.charge-a.ensures (sent_then b (sent_most (sent_no_more b) 1 (omega arith))))

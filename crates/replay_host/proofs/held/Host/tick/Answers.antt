@@ -24,7 +24,8 @@ returns-clause-comes g c =
     let e = tick_of_lem l.lent l.volts l.temps l.buffer x _ c.in-Some.is in
     comes_eq
     (ticked_comes c.tick-answer.result _ _ c.print.ensures
-    (rw c.counted-self.ensures at (enters c.args.self.now.held c.standing-before.ensures c.changed.ensures)))
+    (rw (c.counted-self.ensures, c.number.ensures)
+    at (enters c.args.self.now.held c.standing-before.ensures c.changed.ensures)))
     (ticked_same x _ _ _ _ k.0 k.1 ∙ e.0)
 
 pub returns-clause-loan_after : goal.returns-clause-loan_after
