@@ -27,8 +27,8 @@ impl<W: Write> Out<W> {
         }
     }
 
-    // What waits, written out. Whether that succeeds changes nothing here. It stays apart, so that laying a byte, of which
-    // most write nothing out, stays short.
+    // What waits, written out. Whether that succeeds changes nothing here. It stays apart, so that laying a byte, which
+    // mostly writes nothing out, stays short.
     #[cold]
     #[inline(never)]
     fn flush(&mut self)

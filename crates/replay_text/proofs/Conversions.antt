@@ -9,12 +9,12 @@ use borrow.Author.Tests.{le-leb, lt-leb}
 use lib.Dec.{leb}
 use lib.IntN.{ℤ, pos, negsuc}
 use mir.Syntax.{w16}
-use Rattle.std.specs.Prelude.{option_map, option_and_then, Option, None, Some, Result, Ok, Err, unsigned_abs, OkIff, FitsSigned}
+use Rattle.std.specs.Prelude.{cond, option_map, option_and_then, ok_or, Option, None, Some, Result, Ok, Err, unsigned_abs, OkIff, FitsSigned}
 use Rattle.std.specs.Int.{FitsUnsignedBits}
 use Rattle.std.specs.Result.{result_ok}
 use Rattle.replay_text.specs.Words.{next_word, is_end}
 use Rattle.replay_text.specs.Numbers.{number_in, up_to, of_16_bits, last_of, read_as, only_as, only_in}
-use Rattle.replay_text.specs.Numbers.{within, next_within, good_at_end, only_within}
+use Rattle.replay_text.specs.Numbers.{told_above, within, next_within, good_at_end, only_within}
 
 not_leb : (a b : ℕ) → (a ≤ b → ⊥) → leb a b ≡ false
 not_leb a b h = lt-leb a b (omega (arith, h))
@@ -46,25 +46,18 @@ ok_i16 (negsuc n) (Ok v) h = let i : n ≤ 32767 = omega (arith, ints, h.0) in r
 ok_i16 (negsuc n) (Err d) h = rw (not_leb n 32767 (λ i. h (omega (arith, ints, i))))
 
 -- the one number of a line up to a bound is the good one of `only_within`
-module _ (text : List ℕ) (to most : ℕ) where
-  abbrev told : Option ℤ → Option ℕ
-  told x = result_ok (good_at_end (is_end text to) (within most x))
+module _ (text : List ℕ) (to told : ℕ) where
+  abbrev good : Bool → Option ℕ → Option ℕ
+  good end n = result_ok (good_at_end end (ok_or n told))
 
-  abbrev last : Option ℤ → Option ℕ
-  last x = last_of text (option_map (λ n. (n, to)) (option_and_then (up_to most) x))
-
-  told_pos : (n : ℕ) (p e : Bool) → leb n most ≡ p → is_end text to ≡ e → last (Some (pos n)) ≡ told (Some (pos n))
-  unfolding within up_to
-  told_pos n true true g h = rw (g, h)
-  told_pos n true false g h = rw (g, h)
-  told_pos n false e g h = rw g
-
-  told_last : (x : Option ℤ) → last x ≡ told x
-  unfolding within up_to
-  told_last (Some (pos n)) = told_pos n (leb n most) (is_end text to) refl refl
-  told_last (Some (negsuc n)) = refl
-  told_last None = refl
+  last_good : (n : Option ℕ) → last_of text (option_map (λ n. (n, to)) n) ≡ good (is_end text to) n
+  last_good None = refl
+  last_good (Some n) =
+      elim (is_end text to) as (λ (end : Bool). cond end (Some n) None ≡ good end (Some n)) [ true ↦ refl | false ↦ refl ]
 
 pub only_ok : (text : List ℕ) (from most : ℕ) → only_in text from most ≡ result_ok (only_within text from most).0
-unfolding only_within next_within only_as read_as
-only_ok text from most = told_last text (next_word text from).to most (number_in text (next_word text from))
+unfolding only_within next_within within only_as read_as
+only_ok text from most =
+    let w = next_word text from in
+    let x = number_in text w in
+    last_good text w.to (told_above x) (option_and_then (up_to most) x)

@@ -1,7 +1,7 @@
 -- A decimal number is digits, with a sign before them or none (docs/REPLAY.md, "Input").
 use Prim.Native.Char.{code}
 use Rattle.std.specs.Prelude.{ℕ, Bool, cond, not, ◌||◌, List, leb, eqb, ℤ, pos, negsuc, neg_ℤ}
-use Rattle.std.specs.Prelude.{Option, None, Some, option_map, option_and_then, Result, Ok, Err}
+use Rattle.std.specs.Prelude.{Option, None, Some, option_map, option_and_then, ok_or, Result, Ok, Err}
 use Rattle.replay_text.specs.declared.words.Word.{Word}
 use Rattle.replay_text.specs.declared.digits.Digits.{Digits}
 use Rattle.replay_text.specs.Chars.{byte_at, next_place}
@@ -69,19 +69,25 @@ signed_in text from = read_as of_16_bits text from
 abbrev pub only_in : List ℕ → ℕ → ℕ → Option ℕ
 only_in text from most = only_as (up_to most) text from
 
--- a number, or none, that is to lie from 0 up to a bound: `Ok` has it where it does. Else `Err` has the number itself
--- where it is above the bound, and 0 where it is below 0 or none
-unfoldable pub within : ℕ → Option ℤ → Result ℕ ℕ
-within most (Some (pos n)) = cond (leb n most) (Ok n) (Err n)
-within most (Some (negsuc n)) = Err 0
-within most None = Err 0
+-- what is told of a number, or none, that does not lie from 0 up to a bound: the number where it is above, else 0
+abbrev pub told_above : Option ℤ → ℕ
+told_above (Some (pos n)) = n
+told_above (Some (negsuc n)) = 0
+told_above None = 0
 
--- a number, or none, that is to be one of 16 bits with its sign, from -32768 to 32767: `Ok` has it where it is. Else
--- `Err` has -32768 where it is below these, and 0 where it is above or none
+-- what is told of a number, or none, that is not one of 16 bits: -32768 where it is below these, else 0
+abbrev pub told_below : Option ℤ → ℤ
+told_below (Some (pos n)) = pos 0
+told_below (Some (negsuc n)) = neg_ℤ (pos 32768)
+told_below None = pos 0
+
+-- a number, or none, that is to lie from 0 up to a bound, in `Ok` where it does; else what is told of it, in `Err`
+unfoldable pub within : ℕ → Option ℤ → Result ℕ ℕ
+within most x = ok_or (option_and_then (up_to most) x) (told_above x)
+
+-- a number, or none, that is to be one of 16 bits with its sign, likewise
 unfoldable pub in_16_bits : Option ℤ → Result ℤ ℤ
-in_16_bits (Some (pos n)) = cond (leb n 32767) (Ok (pos n)) (Err (pos 0))
-in_16_bits (Some (negsuc n)) = cond (leb n 32767) (Ok (negsuc n)) (Err (neg_ℤ (pos 32768)))
-in_16_bits None = Err (pos 0)
+in_16_bits x = ok_or (option_and_then of_16_bits x) (told_below x)
 
 -- the next word as a number from 0 up to a bound, and the place past the word, whatever it is
 unfoldable pub next_within : List ℕ → ℕ → ℕ → Result ℕ ℕ × ℕ
@@ -99,4 +105,5 @@ good_at_end end (Err n) = Err n
 -- the next word as a number from 0 up to a bound, good only where the line has no word after it, and the place past it
 unfoldable pub only_within : List ℕ → ℕ → ℕ → Result ℕ ℕ × ℕ
 only_within text from most =
-    (good_at_end (is_end text (next_within text from most).1) (next_within text from most).0, (next_within text from most).1)
+    let next = next_within text from most in
+    (good_at_end (is_end text next.1) next.0, next.1)

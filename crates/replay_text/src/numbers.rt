@@ -81,8 +81,8 @@ fn read_number(text: &[u8], w: Word) -> Option<i64>
     }
 }
 
-// The next word as a number, and the place past it. Always inlined, as each number of a table asks for it: its answer then
-// does not go by way of memory.
+// The next word as a number, and the place past it. Always inlined, as each number of a table asks for it: its answer
+// then does not go by way of memory.
 #[inline(always)]
 #[tactic(auto, unfolding(crate::specs::Numbers::read_as))]
 pub fn next_number<T: Number>(text: &[u8], from: usize) -> Option<(T, usize)>

@@ -38,8 +38,8 @@ pub struct Taken {
     pub session: Session,
 }
 
-// The frames of a tick to the station: at most three. An enum and no `ArrayVec`, which cannot be copied: what a tick comes
-// to is a value, as a session is.
+// The frames of a tick to the station: at most three. An enum and no `ArrayVec`, which cannot be copied: what a tick
+// comes to is a value, as a session is.
 #[derive(Clone, Copy)]
 pub enum ChargeFrames {
     Nothing,
