@@ -125,4 +125,4 @@ rows =
 
 -- The row at a place; no message has the row of zeros that stands past the end
 abbrev pub row_at : ℕ → Row
-row_at place = get_or rows place (to_us 0 0)
+row_at place = get_or rows place (record { 0 = 0; 1 = 0; 2 = 0; 3 = 0 })

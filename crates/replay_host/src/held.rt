@@ -13,7 +13,7 @@ use replay_print::out::Out;
 use replay_print::standings::Standing;
 use std::io::Write;
 
-// The buffer that `replay_print` prints a write of, under this crate's name too.
+// The buffer of which each tick and write is lent the first bytes.
 pub type Buffer = replay_print::Buffer;
 
 // The controller in use, once a settings record was accepted, the ticks that it has accepted, and the output.

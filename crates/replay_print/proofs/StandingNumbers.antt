@@ -7,12 +7,37 @@ use native.Mathlib.Omega.{arith}
 use borrow.Author.Tests.{ne_eqb}
 use lib.Dec.{eqb}
 use lib.ListN.{get_or}
+use Rattle.session_states.specs.declared.states.State.{State}
+use Rattle.session_states.specs.declared.states.State.TheVariants as state
 use Rattle.replay_print.specs.declared.standings.Name.{Name}
 use Rattle.replay_print.specs.declared.standings.Name.TheVariants as name
 use Rattle.replay_print.specs.declared.standings.Standing.TheVariants.{In}
 use Rattle.replay_print.specs.Quoted.{quoted}
 use Rattle.replay_print.specs.Text.{hex_of}
-use Rattle.replay_print.specs.Standings.{standing_numbered, standing_text, name_number, same_standing}
+use Rattle.replay_print.specs.Standings.{standing_of, standing_numbered, standing_text, name_number, same_standing}
+
+-- the number of a state
+abbrev pub state_number : State → ℕ
+state_number state.Idle = 0
+state_number state.Offered = 1
+state_number state.Unverified = 2
+state_number state.Parameters = 3
+state_number (state.Ready accepted maximum) = 4
+state_number (state.Charging p) = 5
+state_number (state.Stopping acknowledged est) = 6
+state_number state.Error = 7
+
+-- a state's standing is that of its number
+pub state_numbered : (x : State) (s : ℕ) → standing_of x s ≡ standing_numbered (state_number x) s
+unfolding standing_of standing_numbered
+state_numbered state.Idle s = refl
+state_numbered state.Offered s = refl
+state_numbered state.Unverified s = refl
+state_numbered state.Parameters s = refl
+state_numbered (state.Ready accepted maximum) s = refl
+state_numbered (state.Charging p) s = refl
+state_numbered (state.Stopping acknowledged est) s = refl
+state_numbered state.Error s = refl
 
 -- the states' names, in the order of their numbers
 abbrev pub state_names : List (List ℕ)

@@ -29,7 +29,7 @@ unfoldable pub laid_of : List ℕ → Output → Output
 laid_of [] x = x
 laid_of (b ∷ text) x = laid_of text (put_of b x)
 
--- what waits in an output of the code
+-- what waits in an output of the code: its buffer, of which the bytes before the free place wait
 abbrev pub waits : {W : Type 0} → Out W → Output
 waits o = out_of o.buf o.at
 

@@ -9,5 +9,5 @@ pub mod numerals;
 pub mod out;
 pub mod standings;
 
-// The buffer of which each tick and write is lent the first bytes.
+// A buffer whose first bytes are printed, as callers hold it; here it is asked for by slices alone.
 pub type Buffer = [u8; 4096];

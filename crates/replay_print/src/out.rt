@@ -62,7 +62,7 @@ impl<W: Write> Out<W> {
         }
     }
 
-    // What still waits, written out at the end.
+    // What still waits, written out at the end. It goes on waiting: a second call writes it out again.
     pub fn finish(&mut self)
         ensures { waits self.new ≡ waits self.old }
     {

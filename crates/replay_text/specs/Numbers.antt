@@ -69,6 +69,9 @@ signed_in text from = read_as of_16_bits text from
 abbrev pub only_in : List ℕ → ℕ → ℕ → Option ℕ
 only_in text from most = only_as (up_to most) text from
 
+-- Of a number that is refused something is told too, for those who ask for it; no line of a script does. A number of
+-- 2^48 or more is no longer the plain value of its digits (`with_digit`), so bounds lie below that.
+
 -- what is told of a number, or none, that does not lie from 0 up to a bound: the number where it is above, else 0
 abbrev pub told_above : Option ℤ → ℕ
 told_above (Some (pos n)) = n
