@@ -14,7 +14,7 @@ use Rattle.std.specs.Int.{FitsUnsignedBits}
 use Rattle.std.specs.Result.{result_ok}
 use Rattle.replay_text.specs.Words.{next_word, is_end}
 use Rattle.replay_text.specs.Numbers.{number_in, up_to, of_16_bits, last_of, read_as, only_as, only_in}
-use Rattle.replay_text.specs.Numbers.{told_above, within, next_within, good_at_end, only_within}
+use Rattle.replay_text.specs.Numbers.{told_above, next_or_told, good_at_end, only_within}
 
 not_leb : (a b : ℕ) → (a ≤ b → ⊥) → leb a b ≡ false
 not_leb a b h = lt-leb a b (omega (arith, h))
@@ -56,7 +56,7 @@ module _ (text : List ℕ) (to told : ℕ) where
       elim (is_end text to) as (λ (end : Bool). cond end (Some n) None ≡ good end (Some n)) [ true ↦ refl | false ↦ refl ]
 
 pub only_ok : (text : List ℕ) (from most : ℕ) → only_in text from most ≡ result_ok (only_within text from most).0
-unfolding only_within next_within within only_as read_as
+unfolding only_within next_or_told only_as read_as
 only_ok text from most =
     let w = next_word text from in
     let x = number_in text w in

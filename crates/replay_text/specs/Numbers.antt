@@ -84,21 +84,22 @@ told_below (Some (pos n)) = pos 0
 told_below (Some (negsuc n)) = neg_ℤ (pos 32768)
 told_below None = pos 0
 
--- a number, or none, that is to lie from 0 up to a bound, in `Ok` where it does; else what is told of it, in `Err`
-unfoldable pub within : ℕ → Option ℤ → Result ℕ ℕ
-within most x = ok_or (option_and_then (up_to most) x) (told_above x)
+module _ {A : Type 0} (of : ℤ → Option A) (told : Option ℤ → A) where
+  -- a number, or none, by what it is to be, in `Ok` where it is that; else what is told of it, in `Err`
+  abbrev pub good_or_told : Option ℤ → Result A A
+  good_or_told x = ok_or (option_and_then of x) (told x)
 
--- a number, or none, that is to be one of 16 bits with its sign, likewise
-unfoldable pub in_16_bits : Option ℤ → Result ℤ ℤ
-in_16_bits x = ok_or (option_and_then of_16_bits x) (told_below x)
+  -- the next word as such a number, and the place past the word, whatever it is
+  unfoldable pub next_or_told : List ℕ → ℕ → Result A A × ℕ
+  next_or_told text from = (good_or_told (number_in text (next_word text from)), (next_word text from).to)
 
 -- the next word as a number from 0 up to a bound, and the place past the word, whatever it is
-unfoldable pub next_within : List ℕ → ℕ → ℕ → Result ℕ ℕ × ℕ
-next_within text from most = (within most (number_in text (next_word text from)), (next_word text from).to)
+abbrev pub next_within : List ℕ → ℕ → ℕ → Result ℕ ℕ × ℕ
+next_within text from most = next_or_told (up_to most) told_above text from
 
 -- the next word as a number of 16 bits with its sign, and the place past the word, whatever it is
-unfoldable pub next_in_16_bits : List ℕ → ℕ → Result ℤ ℤ × ℕ
-next_in_16_bits text from = (in_16_bits (number_in text (next_word text from)), (next_word text from).to)
+abbrev pub next_in_16_bits : List ℕ → ℕ → Result ℤ ℤ × ℕ
+next_in_16_bits text from = next_or_told of_16_bits told_below text from
 
 -- a number that is good only where its line ends after it: else `Err` has it
 abbrev pub good_at_end : Bool → Result ℕ ℕ → Result ℕ ℕ

@@ -2,7 +2,7 @@
 ghost use Rattle.std.specs.Prelude.{◌≡◌, ℤ, Option};
 ghost use Rattle.std.specs.Result.{result_ok};
 ghost use Rattle.replay_text.specs.Numbers.{past_sign, number_in, up_to, of_16_bits, read_as, only_as, only_in};
-ghost use Rattle.replay_text.specs.Numbers.{within, in_16_bits, next_within, next_in_16_bits, only_within};
+ghost use Rattle.replay_text.specs.Numbers.{told_above, told_below, good_or_told, next_within, next_in_16_bits, only_within};
 
 use crate::words::Word;
 use crate::{after, byte_at, digits, words};
@@ -108,9 +108,9 @@ pub fn only_number<T: Number>(text: &[u8], from: usize) -> Option<T>
 
 // A number, or none, that is to lie from 0 up to so much. Where it does not, `Err` has the number itself where it is
 // above that, and 0 where it is below 0 or none.
-#[tactic(auto, unfolding(crate::specs::Numbers::within, crate::specs::Numbers::up_to))]
+#[tactic(auto, unfolding(crate::specs::Numbers::up_to))]
 fn within(x: Option<i64>, most: u64) -> Result<u64, u64>
-    ensures { result ≡ within most x }
+    ensures { result ≡ good_or_told (up_to most) told_above x }
 {
     let Some(x) = x.and_then(u64::of) else {
         return Err(0);
@@ -120,9 +120,9 @@ fn within(x: Option<i64>, most: u64) -> Result<u64, u64>
 
 // A number, or none, that is to be one of 16 bits with its sign. Where it is not, `Err` has -32768 where it is below
 // these, and 0 where it is above or none.
-#[tactic(auto, unfolding(crate::specs::Numbers::in_16_bits, crate::specs::Numbers::of_16_bits))]
+#[tactic(auto, unfolding(crate::specs::Numbers::of_16_bits))]
 fn in_16_bits(x: Option<i64>) -> Result<i16, i16>
-    ensures { result ≡ in_16_bits x }
+    ensures { result ≡ good_or_told of_16_bits told_below x }
 {
     let Some(x) = x else {
         return Err(0);
@@ -131,7 +131,7 @@ fn in_16_bits(x: Option<i64>) -> Result<i16, i16>
 }
 
 // The next word as a number from 0 up to so much, as `within` tells it, and the place past the word, whatever it is.
-#[tactic(auto, unfolding(crate::specs::Numbers::next_within))]
+#[tactic(auto, unfolding(crate::specs::Numbers::next_or_told))]
 pub fn next_up_to(text: &[u8], from: usize, most: u64) -> (Result<u64, u64>, usize)
     ensures { result ≡ next_within text.now from most }
 {
@@ -140,7 +140,7 @@ pub fn next_up_to(text: &[u8], from: usize, most: u64) -> (Result<u64, u64>, usi
 }
 
 // The next word as a number of 16 bits with its sign, as `in_16_bits` tells it, and the place past the word likewise.
-#[tactic(auto, unfolding(crate::specs::Numbers::next_in_16_bits))]
+#[tactic(auto, unfolding(crate::specs::Numbers::next_or_told))]
 pub fn next_signed(text: &[u8], from: usize) -> (Result<i16, i16>, usize)
     ensures { result ≡ next_in_16_bits text.now from }
 {
