@@ -5,7 +5,7 @@ use mathlib.Core.Path.{◌≡◌, refl}
 use mathlib.Core.Bool.{Bool, true, false}
 use native.Mathlib.Omega.{arith}
 use Rattle.std.proofs.lemmas.Int.{ints}
-use borrow.Author.Tests.{le-leb, lt-leb}
+use borrow.Author.Tests.{le-leb, lt-leb, leb-true, leb-false}
 use lib.Dec.{leb}
 use lib.IntN.{ℤ, pos, negsuc}
 use mir.Syntax.{w16}
@@ -44,6 +44,44 @@ ok_i16 (pos n) (Ok v) h = let i : n ≤ 32767 = omega (arith, ints, h.0) in rw (
 ok_i16 (pos n) (Err d) h = rw (not_leb n 32767 (λ i. h (omega (arith, ints, i))))
 ok_i16 (negsuc n) (Ok v) h = let i : n ≤ 32767 = omega (arith, ints, h.0) in rw (le-leb n 32767 i, h.1)
 ok_i16 (negsuc n) (Err d) h = rw (not_leb n 32767 (λ i. h (omega (arith, ints, i))))
+
+-- a number that is read up to a bound is one that is read up to a larger one and tested
+abbrev pub tested : ℕ → Option ℕ → Option ℕ
+tested most None = None
+tested most (Some x) = cond (leb x most) (Some x) None
+
+module _ (text : List ℕ) (to big most : ℕ) (h : most ≤ big) where
+  abbrev last : ℕ → Option ℤ → Option ℕ
+  last most x = last_of text (option_map (λ n. (n, to)) (option_and_then (up_to most) x))
+
+  ended : (n : ℕ) (e p : Bool) → leb n most ≡ p → cond e (cond p (Some n) None) None ≡ tested most (cond e (Some n) None)
+  ended n true p t = rw t
+  ended n false p t = elim p [ true ↦ refl | false ↦ refl ]
+
+  last_pos : (n : ℕ) (p q : Bool) → leb n most ≡ p → leb n big ≡ q
+      → last most (Some (pos n)) ≡ tested most (last big (Some (pos n)))
+  unfolding up_to
+  last_pos n true true e f = rw (e, f) (ended n (is_end text to) true e)
+  last_pos n true false e f =
+      let a = leb-true n most e in
+      let b = leb-false n big f in
+      absurd (omega arith)
+  last_pos n false true e f =
+      rw (e, f)
+      (elim (is_end text to) as (λ (b : Bool). None ≡ tested most (cond b (Some n) None)) [ true ↦ rw e | false ↦ refl ])
+  last_pos n false false e f = rw (e, f)
+
+  last_tested : (x : Option ℤ) → last most x ≡ tested most (last big x)
+  unfolding up_to
+  last_tested None = refl
+  last_tested (Some (pos n)) = last_pos n (leb n most) (leb n big) refl refl
+  last_tested (Some (negsuc n)) = refl
+
+pub only_tested : (text : List ℕ) (from most : ℕ) → most ≤ 18446744073709551615
+    → only_in text from most ≡ tested most (only_as (up_to 18446744073709551615) text from)
+unfolding only_as read_as
+only_tested text from most h =
+    last_tested text (next_word text from).to 18446744073709551615 most h (number_in text (next_word text from))
 
 -- the one number of a line up to a bound is the good one of `only_within`
 module _ (text : List ℕ) (to told : ℕ) where
